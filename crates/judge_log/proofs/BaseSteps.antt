@@ -29,7 +29,7 @@ use Rattle.judge_log.proofs.Dumps.{some_or_none, and_then_is}
 use Rattle.judge_log.proofs.Filling.{closed_fills, closes_base}
 use Rattle.judge_log.proofs.Loops.{After, after_more, at_too, fold_at}
 
--- ---- the data kept about the pool
+-- ---- the data that the replay keeps about visits of the pool
 
 root_place : (s : PoolState) (e : PoolEntry) →
     option_and_then (λ (root : KeptRoot). Some root.base_place) (root_kept s e) ≡ base_place_of e
@@ -49,7 +49,7 @@ module _ (lists : Lists) (pool : List KeptPool) (keeps : KeepsPoolLane pool list
   abbrev state : ℕ → PoolState
   state p = pool_after (take p lists.pool)
 
-  -- at place `p`, the kept data and the entries of the pool both have an element (`Both`), or neither has one
+  -- at place `p`, the kept data and the pool's entries both have an element (`Both`), or neither list has one
   -- (`Neither`)
   pub record Both (p : ℕ) : Type 0 where
     pub kept : KeptPool
@@ -132,7 +132,7 @@ root_within pool least place r h =
     let kept = and_then_is (λ (k : KeptPool). k.root) (slice_get pool r) root.0 root.1 in
     slice_get_within pool r kept.0 kept.1
 
--- ---- which entries fit
+-- ---- the code and the definitions allow the same entries of the base
 
 fits_same : (s : BaseState) (value : List ℕ) (e : BaseEntry) →
     (Fits (base_at s value) e → BaseFits s e) × (BaseFits s e → Fits (base_at s value) e)
@@ -156,7 +156,7 @@ one_reseed_more : (o : Option ℕ) (g : ℕ) → generation_after o g ≤ g + 1
 one_reseed_more None g = omega arith
 one_reseed_more (Some now) g = omega arith
 
--- ---- the loop
+-- ---- the loop of replay_base
 
 abbrev pub BaseMay : Lists → ℕ → BaseEntry → Type 0
 BaseMay lists i e = BaseMayCome lists.pool (base_after (take i lists.base)) e
@@ -164,7 +164,7 @@ BaseMay lists i e = BaseMayCome lists.pool (base_after (take i lists.base)) e
 abbrev pub BaseKeeps : Lists → ℕ → KeptBase → BaseEntry → Type 0
 BaseKeeps lists i k e = KeepsBase (base_used_at lists.pool lists.base i) k (base_visit lists i e)
 
--- after the first `i` entries, `base`, `least` and the kept data `made` equal what the definitions give
+-- after the first `i` entries of the base, `base`, `least` and the kept data `made` equal what the definitions give
 pub record BaseAfter (lists : Lists) (i : ℕ) (base : BaseValue) (least : ℕ) (made : List KeptBase) : Type 0 where
   pub following : After (BaseMay lists) (BaseKeeps lists) lists.base i made
   pub base_conforms : base ≡ base_at (base_after (take i lists.base)) (base_value_after lists.pool (take i lists.base))
@@ -264,7 +264,7 @@ module _ (inferred : Tables) (pool : List KeptPool) (keeps : KeepsPoolLane pool 
           let f : base.generation ≤ i = h.few in omega arith);
     }
 
--- if BaseAfter holds of some values, it holds of equal values
+-- if BaseAfter holds of `base`, `least` and `made`, it holds of `next`, `above` and `items`, which are equal to them
 pub base_next : (lists : Lists) (i : ℕ) (base : BaseValue) (least : ℕ) (made : List KeptBase) (next : BaseValue)
     (above : ℕ) (items : List KeptBase) → BaseAfter lists i base least made → next ≡ base → above ≡ least →
     items ≡ made → BaseAfter lists i next above items

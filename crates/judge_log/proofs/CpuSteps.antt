@@ -31,14 +31,14 @@ use Rattle.judge_log.proofs.Dumps.{some_or_none}
 use Rattle.judge_log.proofs.Filling.{closed_fills, closes_cpu}
 use Rattle.judge_log.proofs.Loops.{After, after_none, after_more, at_too, fold_at}
 
--- ---- batches
+-- ---- the batches of a CPU
 
--- the data kept about a fill; `keys` has the key in use at each place
+-- the data that the replay keeps about a fill of a batch; `keys` has the CPU's key in use at each place
 abbrev kept_fill : (ℕ → List ℕ) → Option Fill → Option LastFill
 kept_fill keys None = None
 kept_fill keys (Some fill) = Some (record { look = fill.look; key = keys fill.place; count = fill.count })
 
--- for each width, `f` has the data kept about the last fill in `fills`
+-- for each width of integers, `f` has the data kept about the last fill in `fills`
 pub record FillsConform (keys : ℕ → List ℕ) (fills : ℕ → Option Fill) (f : LastFills) : Type 0 where
   pub one : f.one ≡ kept_fill keys (fills 1)
   pub two : f.two ≡ kept_fill keys (fills 2)
@@ -104,7 +104,7 @@ module _ (keys : ℕ → List ℕ) where
       let n : fill.count + 1 ≡ suc fill.count = omega arith in
       ap (λ c. Some (record { look = fill.look; key = keys fill.place; count = c })) n
 
-  -- if `f` has the kept data of all last fills, `f` still has them after an integer fills its batch
+  -- if `f` has the kept data of the last fill of each batch, this still holds after an integer fills its batch
   filled_more : (fills : ℕ → Option Fill) (f : LastFills) (place look w : ℕ) (name : Option KeyName) → IsWidth w →
       (refill : Option ℕ) → FillsConform keys fills f → FillsConform keys
       (fills_after place (Int look refill w true) name fills)
@@ -124,7 +124,7 @@ module _ (keys : ℕ → List ℕ) where
       P x = FillsConform keys (fills_after place (Int look refill x true) name fills)
           (put x (Some (record { look = look; key = keys place; count = 1 })) f)
 
-  -- if `f` has the kept data of all last fills, `f` still has them after an integer is served from a filled batch
+  -- if `f` has the kept data of the last fill of each batch, this still holds after a filled batch serves an integer
   served_more : (fills : ℕ → Option Fill) (f : LastFills) (place look w : ℕ) (name : Option KeyName) → IsWidth w →
       (refill : Option ℕ) → FillsConform keys fills f → FillsConform keys
       (fills_after place (Int look refill w false) name fills) (put w (one_more_kept (slot f w)) f)
@@ -163,7 +163,7 @@ module _ (keys : ℕ → List ℕ) where
   fills_more fills f place name Online wide h =
       record { one = h.one; two = h.two; four = h.four; eight = h.eight }
 
-  -- the data kept about a batch's last fill give the same source of bytes as the fill itself
+  -- the data kept about a batch's last fill `o` determine the same source of bytes as `o` itself
   source_in_is : (o : Option Fill) → source_kept (kept_fill keys o) ≡ source_in keys o
   source_in_is None = refl
   source_in_is (Some fill) = refl
@@ -179,7 +179,8 @@ module _ (keys : ℕ → List ℕ) where
   source_is fills f place Prepare wide h = refl
   source_is fills f place Online wide h = refl
 
-  -- if `f` has the kept data of all last fills, an entry fits `f` exactly if it fits by the definition
+  -- if `f` has the kept data of the last fill of each batch, the code's check allows entry `e` exactly if the
+  -- definition does
   fits_is : (s : CpuState) (f : LastFills) (e : CpuEntry) → EntryIsWide e → FillsConform keys s.fills f →
       (FitsKept s.generation f e → CpuFits s e) × (CpuFits s e → FitsKept s.generation f e)
   fits_is s f (Read look refill taken) wide h = (
@@ -209,7 +210,7 @@ pub closed_wide : (f : LastFills) (t : CpuInferred) → CpuIsWide t → EntryIsW
 closed_wide f (cpu_is e) wide = wide
 closed_wide f (batch look width) wide = wide
 
--- ---- refills
+-- ---- refills of a CPU by the base
 
 refill_keeps : (e : BaseEntry) (named : ℕ × ℕ) → refill_of e ≡ Some named →
     (reseeds_at e ≡ None) × (base_erases e ≡ true)
@@ -226,7 +227,7 @@ refill_keeps Interrupt named is = cc
 refill_keeps Stall named is = cc
 refill_keeps Unstall named is = cc
 
--- if each erased key is kept, the data kept about a refill of a CPU have a key
+-- if each erased key is kept, and `kept` are the data about a refill of CPU `c`, `kept` has a key
 pub handed_none : (base : List KeptBase) → KeysKept base → (c place look b : ℕ) (kept : KeptBase) →
     slice_get base b ≡ Some kept → NamesIn c place look (Some kept) → kept.key ≡ None → ⊥
 handed_none base keys c place look b kept is names none =
@@ -238,7 +239,7 @@ module _ (lists : Lists) (base : List KeptBase) (keeps : KeepsBaseLane base list
   entry_at : (b : ℕ) (k : KeptBase) → slice_get base b ≡ Some k → (e : BaseEntry) × (slice_get lists.base b ≡ Some e)
   entry_at b k is = at_too lists.base base b k (sym keeps.count) is
 
-  -- if an entry of the base erases the key in use, the kept data have this key
+  -- if the entry in `k` erases the base's key in use at place `b`, `k` has this key
   erased_key : (b : ℕ) (k : KeptBase) → slice_get base b ≡ Some k → base_erases k.entry ≡ true →
       k.key ≡ Some (base_used_at lists.pool lists.base b)
   erased_key b k is erases =
@@ -360,7 +361,7 @@ module _ (lists : Lists) where
   used_is s value Prepare = refl
   used_is s value Online = refl
 
--- ---- the loop
+-- ---- the loop of replay_cpu
 
 abbrev pub CpuMay : Lists → ℕ → ℕ → CpuEntry → Type 0
 CpuMay lists c k e = CpuMayCome lists.base c (cpu_after lists.base c (take k (cpu_list lists c))) e
@@ -368,7 +369,7 @@ CpuMay lists c k e = CpuMayCome lists.base c (cpu_after lists.base c (take k (cp
 abbrev pub CpuKeeps : Lists → ℕ → ℕ → KeptCpu → CpuEntry → Type 0
 CpuKeeps lists c place k e = KeepsCpu (cpu_used_at lists c) k (cpu_visit lists c place e)
 
--- after the first `i` entries, `cpu`, the fills `f` and the kept data `made` equal what the definitions give
+-- after the first `i` entries of CPU `c`, `cpu`, the fills `f` and the kept data `made` equal what the definitions give
 pub record CpuAfter (lists : Lists) (c i : ℕ) (cpu : CpuValue) (f : LastFills) (made : List KeptCpu) : Type 0 where
   pub following : After (CpuMay lists c) (CpuKeeps lists c) (cpu_list lists c) i made
   pub cpu_conforms : cpu ≡ cpu_at (cpu_after lists.base c (take i (cpu_list lists c)))
@@ -490,7 +491,7 @@ module _ (inferred : Tables) (base : List KeptBase) (keeps : KeepsBaseLane base 
       place = ap (λ (x : CpuState). x.place) state_more ∙ ap suc h.place ∙ (let n : suc i ≡ i + 1 = omega arith in n);
     }
 
--- if CpuAfter holds of some values, it holds of equal values
+-- if CpuAfter holds of `cpu`, `f` and `made`, it holds of `next`, `fills` and `items`, which are equal to them
 pub cpu_next : (lists : Lists) (c i : ℕ) (cpu : CpuValue) (f : LastFills) (made : List KeptCpu) (next : CpuValue)
     (fills : LastFills) (items : List KeptCpu) → CpuAfter lists c i cpu f made → next ≡ cpu → fills ≡ f →
     items ≡ made → CpuAfter lists c i next fills items

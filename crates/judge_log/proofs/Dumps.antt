@@ -1,4 +1,4 @@
--- The code replays the fast pools from the inferred entries. This gives the dumps that the pool mixes.
+-- The code replays the fast pools from the inferred entries, and so computes the dumps that the pool mixes.
 use Rattle.std.proofs.Common.{◌≡◌, ◌<◌, ◌+◌, ℕ, zero, suc, List, [], ◌∷◌, ◌++◌, length, Bool, Option, Some, None, refl, sym, subst, ap, ◌∙◌, arith, ◌⊎◌, inl, inr}
 use Rattle.std.specs.Prelude.{slice_get, option_and_then}
 use Rattle.key_names.specs.declared.entries.PoolEntry.{PoolEntry}
@@ -28,7 +28,7 @@ use Rattle.judge_log.specs.Tables.{Tables}
 use Rattle.judge_log.proofs.Filling.{closed_fills, fills_fast}
 use Rattle.judge_log.proofs.Loops.{After, after_more, at_too, fold_at}
 
--- ---- options and lists of lists
+-- ---- options, and lists of lists
 
 pub and_then_is : {A B : Type 0} (f : A → Option B) (o : Option A) (b : B) → option_and_then f o ≡ Some b →
     (a : A) × (o ≡ Some a) × (f a ≡ Some b)
@@ -50,7 +50,7 @@ list_within [] c below = absurd (omega arith)
 list_within (xs ∷ xss) zero below = refl
 list_within (xs ∷ xss) (suc c) below = list_within xss c (omega arith)
 
--- ---- one visit
+-- ---- one visit of a CPU
 
 due_there : (f : FastPool) (dumps : Bool) (t : CpuInferred) (v : CpuVisit) → FillsCpu t v → DueInferred f dumps t →
     DueConforms f dumps v.entry
@@ -103,7 +103,7 @@ module _ (inferred : Tables) (c i : ℕ) (t : InferredCpu) (f : FastPool) (is : 
       dump =
           dump_same f t.entry (cpu_visit (closed inferred) c i there.0) filled ∙ ap (λ g. dump_by g there.0) before
 
--- ---- the mixes of the pool
+-- ---- the pool's entries that mix dumps
 
 dumped_by : (f : FastPool) (e : CpuEntry) (d : Dumped) → Some d ≡ dump_by f e →
     (now : ℕ) × (e ≡ Dump now) × (d ≡ record { bytes = dump_bytes f; bits = dump_bits f })

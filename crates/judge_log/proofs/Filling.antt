@@ -70,7 +70,7 @@ map_same f (t ∷ ts) (e ∷ es) count all =
     ap (λ x. x ∷ es) (all 0 t e refl refl)
     ∙ ap (λ xs. f t ∷ xs) (map_same f ts es same (λ i u x is at. all (suc i) u x is at))
 
--- ---- one entry
+-- ---- one entry of the base
 
 base_closes : (c : LaneFacts) (t : BaseInferred) (v : BaseVisit) → v.entry ≡ base_entry c.crossed_at v.before t →
     FillsBase c t v
@@ -92,7 +92,7 @@ pub closes_cpu : (t : CpuInferred) (v : CpuVisit) → FillsCpu t v → v.entry �
 closes_cpu (cpu_is e) v h = h
 closes_cpu (batch look width) v h = h
 
--- ---- fast pools
+-- ---- the fast pool after a completed entry
 
 pub fills_fast : (t : CpuInferred) (v : CpuVisit) → FillsCpu t v → (f : FastPool) → fast_step f v.entry ≡ fast_inferred f t
 fills_fast (cpu_is e) v h f = ap (fast_step f) h
@@ -112,7 +112,7 @@ fast_along f (t ∷ ts) (e ∷ es) count all (suc k) =
     ap (λ g. fold fast_step g (take k es)) (all 0 t e refl refl f)
     ∙ fast_along (fast_inferred f t.entry) ts es same (λ i u x is at. all (suc i) u x is at) k
 
--- ---- lanes of CPUs
+-- ---- the lists of the CPUs
 
 cpus_at : (base : List BaseEntry) (c : ℕ) (lanes : List (List InferredCpu)) (n m : ℕ) → c + n ≡ m →
     list_at (closed_cpus base c lanes) n ≡ closed_cpu base m (list_at lanes n)
@@ -138,7 +138,7 @@ cpus_same base c (lane ∷ lanes) (es ∷ ess) count all =
     ∙ ap (λ xs. closed_cpu base c lane ∷ xs)
     (cpus_same base (suc c) lanes ess same (λ n m is. all (suc n) m (omega arith)))
 
--- ---- the completed lists match
+-- ---- the completed lists match the inferred entries
 
 closed_lane : (inferred : Tables) (c : ℕ) →
     list_at (closed_cpus (closed_base inferred) 0 inferred.cpus) c ≡ closed_cpu (closed_base inferred) c (list_at inferred.cpus c)
@@ -210,7 +210,7 @@ closed_fills inferred = record {
   cpu = λ c k t e is at. cpu_filled inferred c k t e is at;
 }
 
--- ---- all lists that match have the same lanes
+-- ---- all lists that match the inferred entries have the same lanes
 
 pub record SameLanes (a b : Lists) : Type 0 where
   pub pool : a.pool ≡ b.pool

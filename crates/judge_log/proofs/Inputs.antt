@@ -8,8 +8,8 @@ use Rattle.input_pool.proofs.Callers.{mixed, mixed_and_credited, input_bytes, cr
 use Rattle.sample_credit.specs.LastInput.{LastInput}
 use Rattle.judge_log.specs.PoolLane.{LaneConforms}
 
--- an input event whose value differs from the last one: `between` is the pool after the sample was mixed, and `kept`
--- has the new value
+-- an input event whose value differs from the value of the last one: `between` is the pool after the event's sample was
+-- mixed, and `kept` records the new value
 pub record Mixed (s : PoolState) (word kind code value : ℕ) (before between : PoolParts) (last kept : LastInput)
     (text : List ℕ) : Type 0 where
   pub pool : PoolConforms before s
@@ -28,7 +28,7 @@ module _ (s : PoolState) (word kind code value now : ℕ) (before between : Pool
   uncredited : between.bits ≡ s.bits
   uncredited = m.mixes.credited ∙ credit-none s.bits m.pool.capped
 
-  -- if the pool is full, nothing is credited
+  -- if the pool `between` is full (256 bits), nothing is credited
   pub untimed : 256 ≤ between.bits →
       LaneConforms (record { pool = between; timer = kept }) (pool_step s (Input word kind code value now))
   untimed full = let full' : 256 ≤ s.bits = (let u = uncredited in omega arith) in let e =
@@ -39,7 +39,7 @@ module _ (s : PoolState) (word kind code value now : ℕ) (before between : Pool
         timer = ap (λ (k : LastInput). k.timer) m.keeps ∙ m.timer_stood ∙ sym (ap (λ (z : PoolState). z.timer) e);
       }
 
-  -- if the pool is not full, the timer determines the credit
+  -- if the pool `between` is not full, the timer determines the credited bits
   module _ (after : PoolParts) (next : LastInput) (bits : ℕ) (room : between.bits < 256)
       (worth : bits ≡ timer_bits kept.timer now) (credits : PoolConforms after (mixed_and_credited s text bits)) where
     room' : s.bits < 256

@@ -21,7 +21,7 @@ module _ {T : Type 0} where
   items_more [] v = refl
   items_more (x ∷ vecs) v = ap (λ xs. x.items ∷ xs) (items_more vecs v)
 
--- if P and S hold of the first c lanes and of lane c, they hold of the first c + 1 lanes
+-- if P and S hold of each of the first c lanes and of lane c, they hold of each of the first c + 1 lanes
 pub lanes_more : {T E : Type 0} (P : ℕ → List E → Type 0) (S : ℕ → List T → List E → Type 0) (lists : List (List E))
     (c : ℕ) (made : List (Vec T Global)) (v : Vec T Global) → c < length lists →
     After P S lists c (map (λ (w : Vec T Global). w.items) made) → P c (list_at lists c) →

@@ -8,13 +8,13 @@ use Rattle.std.proofs.lemmas.Option.{slice_get_within, slice_get-get_or, get_or_
 use Rattle.key_names.specs.Lanes.LawfulList.{LawfulFrom}
 use Rattle.judge_log.specs.Places.{AllPlaces, AllKept}
 
--- the element that a loop reads at place i is also at place i of an equal list
+-- if lists `xs` and `ys` are equal, the element that a loop reads at place `i` of `xs` is also at place `i` of `ys`
 pub found : {T : Type 0} (xs ys : List T) (i : ℕ) (d : T) → xs ≡ ys → i < length xs →
     slice_get ys i ≡ Some (get_or xs i d)
 found xs ys i d same below =
     subst (λ zs. slice_get zs i ≡ Some (get_or xs i d)) same (slice_get-get_or xs i d below)
 
--- the first i + 1 entries are the first i and the next one
+-- the first i + 1 entries of `list` are the first i entries, followed by the entry `e` at place i
 pub take_at : {E : Type 0} (list : List E) (i : ℕ) (e : E) → slice_get list i ≡ Some e →
     take (i + 1) list ≡ take i list ++ e ∷ []
 take_at list i e is =
@@ -26,7 +26,7 @@ pub fold_at : {S E : Type 0} (step : S → E → S) (s : S) (list : List E) (i :
 fold_at step s list i e is =
     ap (fold step s) (take_at list i e is) ∙ fold-append step s (take i list) (e ∷ [])
 
--- if `k` is added to a list, each element of the longer list is an earlier element or `k` itself
+-- if `k` is appended to the list `made`, each element of the longer list is an element of `made` or `k` itself
 pub push_at : {K : Type 0} (made : List K) (k x : K) (j : ℕ) → slice_get (made ++ k ∷ []) j ≡ Some x →
     (slice_get made j ≡ Some x) ⊎ ((j ≡ length made) × (x ≡ k))
 push_at [] k x zero is = let same : k ≡ x = cc in inr (refl, sym same)
@@ -44,7 +44,7 @@ below_or_at (suc j) (suc i) below = elim (below_or_at j i (omega arith)) [
   | inr h ↦ inr (ap suc h)
 ]
 
--- if two lists have the same length and one has an element at a place, the other has one there too
+-- if `list` and `inferred` have the same length, and `inferred` has an element at place `i`, `list` has one at `i` too
 pub at_too : {E T : Type 0} (list : List E) (inferred : List T) (i : ℕ) (t : T) → length list ≡ length inferred →
     slice_get inferred i ≡ Some t → (e : E) × (slice_get list i ≡ Some e)
 at_too [] [] i t same is = let never : None ≡ Some t = is in cc
@@ -53,7 +53,8 @@ at_too (e ∷ list) [] i t same is = cc
 at_too (e ∷ list) (u ∷ inferred) zero t same is = (e, refl)
 at_too (e ∷ list) (u ∷ inferred) (suc i) t same is = let s : length list ≡ length inferred = cc in at_too list inferred i t s is
 
--- P holds of each place below i, and S holds of each of these places with the item kept for it
+-- P holds of each of the first `i` places of `list`; S holds of each of these places with the item kept for it in
+-- `made`
 pub record After {K E : Type 0} (P : ℕ → E → Type 0) (S : ℕ → K → E → Type 0) (list : List E) (i : ℕ)
     (made : List K) : Type 0 where
   pub holds : (j : ℕ) (e : E) → j < i → slice_get list j ≡ Some e → P j e
@@ -102,7 +103,7 @@ module _ {K E : Type 0} (P : ℕ → E → Type 0) (S : ℕ → K → E → Type
     record { count = h.count ∙ sym all; each = h.each },
   )
 
--- if each entry of a list is allowed at its place, the list is lawful
+-- if each entry of `list` is allowed in the state after the entries before it, `list` is lawful
 pub lawful_by_place : {S E : Type 0} (May : S → E → Type 0) (step : S → E → S) (s : S) (list : List E) →
     AllPlaces (λ i e. May (fold step s (take i list)) e) list → LawfulFrom May step s list
 lawful_by_place May step s [] all = tt

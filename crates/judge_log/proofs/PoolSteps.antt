@@ -29,8 +29,8 @@ Any p e = Unit {0}
 abbrev pub PoolKeeps : Lists → ℕ → KeptPool → PoolEntry → Type 0
 PoolKeeps lists p k e = KeepsPool k (pool_visit lists p e)
 
--- after the first `i` entries, `lane` and the kept data `made` equal what the definitions give, and each mix of a dump
--- names a dump
+-- after the first `i` entries of the pool, `lane` and the kept data `made` equal what the definitions give, and each
+-- entry that mixes a dump names a dump
 pub record PoolAfter (inferred : Tables) (i : ℕ) (lane : PoolReplay) (made : List KeptPool) : Type 0 where
   pub conforms : LaneConforms lane (pool_after (take i (closed inferred).pool))
   pub mixed : (j : ℕ) (t : InferredPool) → j < i → slice_get inferred.pool j ≡ Some t → MixConforms (closed inferred) t
@@ -79,7 +79,8 @@ pub pool_next : (inferred : Tables) (i : ℕ) (lane : PoolReplay) (made items : 
     items ≡ made → PoolAfter inferred i lane items
 pool_next inferred i lane made items h is = subst (λ x. PoolAfter inferred i lane x) (sym is) h
 
--- if PoolAfter holds of the first i entries and the code visits the next entry, PoolAfter holds of the first i + 1
+-- if PoolAfter holds of the first i entries of the pool and the code visits the next entry, PoolAfter holds of the
+-- first i + 1
 pub pool_visited : (inferred : Tables) (dumps : List (List (Option Dump))) (all : AllDumps (closed inferred) dumps) (i : ℕ)
     (t : InferredPool) → slice_get inferred.pool i ≡ Some t → (lane : PoolReplay) (made : List KeptPool) → PoolAfter inferred i lane made →
     (next : PoolReplay) (result : Option (Option KeptRoot)) → (entry_found dumps t ≡ None → result ≡ None) →

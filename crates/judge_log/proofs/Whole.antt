@@ -1,4 +1,5 @@
--- The completed lists are lawful exactly if each lane was found lawful and all names in the kept data are mutual.
+-- The completed lists are lawful exactly if each lane was found lawful and, by the kept data, entries that name each
+-- other do so mutually.
 use Rattle.std.proofs.Common.{◌≡◌, ℕ, zero, suc, List, [], ◌∷◌, length, map, Option, Some, None, refl, sym, subst, ap, ◌∙◌}
 use Rattle.std.specs.Prelude.{slice_get, option_and_then}
 use Rattle.key_names.specs.Lanes.PoolList.{extraction_at}
@@ -31,7 +32,8 @@ use Rattle.judge_log.proofs.Filling.{closed_fills, fills_same}
 use Rattle.judge_log.proofs.Loops.{lawful_by_place}
 use Rattle.judge_log.proofs.Moved.{kept_of_same, lawful_of_same}
 
--- if `f` of each kept item equals `g` of its entry, a look-up at any place gives equal results in both lists
+-- if `f k` equals `g e` for each kept item `k` and its entry `e`, look-ups at any place give equal results in both
+-- lists
 names_same : {K E B : Type 0} (f : K → Option B) (g : E → Option B) (kept : List K) (list : List E) →
     length kept ≡ length list →
     ((i : ℕ) (k : K) (e : E) → slice_get kept i ≡ Some k → slice_get list i ≡ Some e → f k ≡ g e) → (i : ℕ) →

@@ -10,7 +10,8 @@ use Rattle.judge_log.specs.declared.kept.KeptRoot.{KeptRoot}
 use Rattle.judge_log.specs.declared.kept.KeptPool.{KeptPool}
 use Rattle.judge_log.specs.Places.{AllPlaces}
 
--- the state of a base; its place, its roots and the name of its key are left out, since the code does not keep these
+-- the base's state in the definitions, from the value `b` that the code has. The code keeps no place, roots or name of
+-- the key, so these fields are 0 or none
 abbrev pub state_of : BaseValue → BaseState
 state_of b = record {
   place = 0;
@@ -26,7 +27,7 @@ state_of b = record {
 abbrev pub Fits : BaseValue → BaseEntry → Type 0
 Fits b e = BaseFits (state_of b) e
 
--- the crossing in the data kept about a visit of the pool; none if there is no visit
+-- the crossing in the data kept about a visit of the pool; none if there is no such visit
 abbrev pub crossing_kept : Option KeptPool → Crossing
 crossing_kept None = none
 crossing_kept (Some kept) = crossing_of kept.crossing
@@ -34,14 +35,15 @@ crossing_kept (Some kept) = crossing_of kept.crossing
 abbrev pub crossed_of : List KeptPool → ℕ → Crossing
 crossed_of pool place = crossing_kept (slice_get pool place)
 
--- the root of the pool's visit at this place, if the visit is an extraction
+-- the root that the pool's visit at place `r` extracted; none if the visit is no extraction
 abbrev pub root_in : List KeptPool → ℕ → Option KeptRoot
 root_in pool r = option_and_then (λ (kept : KeptPool). kept.root) (slice_get pool r)
 
 abbrev pub root_value_in : List KeptPool → ℕ → Option (List ℕ)
 root_value_in pool r = option_and_then (λ (root : KeptRoot). Some root.value) (root_in pool r)
 
--- if a root is named, its place in the pool is at least `least`, and the extraction there names `place` of the base
+-- if an entry of the base names a root, the root's place in the pool is at least `least`, and the extraction there
+-- names `place` of the base
 abbrev pub RootConformsIn : List KeptPool → ℕ → ℕ → Option ℕ → Type 0
 RootConformsIn pool least place None = ⊤
 RootConformsIn pool least place (Some r) =

@@ -32,7 +32,7 @@ state_of s = unwrap_or (slice_get s.states s.current) wiped_state
 abbrev pub with_state : VStates → VgetrandomState → VStates
 with_state s state = record s { states = slice_set s.states s.current state }
 
--- the states after a single event
+-- the caller's vgetrandom states after a single event
 abbrev pub states_after : Event → VStates → VStates
 states_after Drop s = with_state s wiped_state
 states_after (State number) s = record s { current = number }
@@ -47,7 +47,7 @@ module _ (kept : KeptLists) (set : Setting) where
     pub new_is : new ≡ states_after event old
     pub writes_are : writes ≡ write line (alone_says kept set event line.steps) ∷ []
 
-  -- if the point of an act was reached, the act has a form; any other act has no steps
+  -- if the `vread` reached the act's point, the act's steps match a form of the act; otherwise the act has no steps
   abbrev pub ActDone : Reached → BoundAct → Type 0
   ActDone reached bound = ActConforms kept set (includes reached bound.point) bound.act bound.line.steps
 
@@ -80,8 +80,8 @@ module _ (kept : KeptLists) (set : Setting) where
   CallSaid (unbound bound) old new writes = UnboundSaid bound old new writes
   CallSaid (ending line) old new writes = EndingSaid line old new writes
 
--- if the bool is true, the call has answers and data, and `notes'` is `notes` with them; if it is false, the call has
--- none
+-- if the bool is true, the call has answers and data, and `notes'` is `notes` with them added; if it is false, the call
+-- has none
 module _ {Noted : Type 0} (IsNoted : ℕ → MadeLine → Noted → Type 0) (kept : KeptLists) (set : Setting) where
   abbrev pub IsCallSaid : Call → VStates → VStates → List Noted → List Noted → Bool → Type 0
   IsCallSaid call old new notes notes' true =
@@ -90,8 +90,8 @@ module _ {Noted : Type 0} (IsNoted : ℕ → MadeLine → Noted → Type 0) (kep
       (t : VStates) (writes : List Write) → CallSaid kept set call old t writes → ⊥
 
 module _ (kept : KeptLists) where
-  -- `writes` has the answers and data of the calls, in order; each call has its setting, and `t` are the states after
-  -- the calls
+  -- `writes` has the answers and data of the calls, in order; each call is taken with its setting; `s` and `t` are the
+  -- vgetrandom states before and after the calls
   abbrev pub CallsSaid : List Setting → List Call → VStates → VStates → List Write → Type 0
   CallsSaid [] calls s t writes = (t ≡ s) × (writes ≡ [])
   CallsSaid (set ∷ sets) [] s t writes = (t ≡ s) × (writes ≡ [])

@@ -23,7 +23,7 @@ use Rattle.judge_log.specs.declared.inferred.InferredCpu.{InferredCpu}
 use Rattle.judge_log.specs.Fills.{pool_entry}
 use Rattle.judge_log.specs.Tables.{Tables}
 
--- each inferred entry is completed in the state after the entries before it
+-- `close` completes each inferred entry in the state after the entries before it; `step` gives the state after an entry
 abbrev pub filled : {S T E : Type 0} → (S → T → E) → (S → E → S) → S → List T → List E
 filled close step s [] = []
 filled close step s (t ∷ ts) = close s t ∷ filled close step (step s (close s t)) ts

@@ -17,12 +17,12 @@ use Rattle.judge_log.specs.declared.kept.BytesSource.{BytesSource}
 use Rattle.judge_log.specs.Kept.{no_source}
 use Rattle.judge_log.specs.Places.{AllPlaces}
 
--- ---- batches
+-- ---- the batches of a CPU
 
 abbrev pub no_fills : LastFills
 no_fills = record { one = None; two = None; four = None; eight = None }
 
--- the last fill of the batch of a width
+-- the last fill of the batch with integers of `w` bytes
 abbrev pub slot : LastFills → ℕ → Option LastFill
 slot f w =
     if w == 1 then f.one else (if w == 2 then f.two else (if w == 4 then f.four else (if w == 8 then f.eight else None)))
@@ -47,7 +47,7 @@ abbrev pub HasRoom : Option LastFill → Type 0
 HasRoom None = ⊤
 HasRoom (Some fill) = fill.count < 96
 
--- an entry that takes bytes of a batch filled earlier needs a batch with bytes left
+-- if an entry takes bytes of a batch that was filled earlier, this batch must have bytes left
 abbrev pub RoomFor : LastFills → CpuEntry → Type 0
 RoomFor f (Int look refill width true) = ⊤
 RoomFor f (Int look refill width false) = HasRoom (slot f width)
@@ -57,7 +57,7 @@ RoomFor f (Dump now) = ⊤
 RoomFor f Prepare = ⊤
 RoomFor f Online = ⊤
 
--- ---- the entry
+-- ---- completing an inferred entry, and checking an entry
 
 abbrev pub cpu_closed : LastFills → CpuInferred → CpuEntry
 cpu_closed f (cpu_is e) = e
@@ -73,7 +73,7 @@ FitsKept g f (Dump now) = ⊤
 FitsKept g f Prepare = ⊤
 FitsKept g f Online = ⊤
 
--- ---- refills
+-- ---- refills of the CPU by the base
 
 -- the look and the refill that an entry names, if it names one
 abbrev pub refill_named : CpuEntry → Option (ℕ × ℕ)
@@ -86,11 +86,11 @@ refill_named (Dump now) = None
 refill_named Prepare = None
 refill_named Online = None
 
--- if a visit of the base erases the key in use, that key is kept
+-- if a visit of the base erases the key in use, the data kept about this visit have that key
 abbrev pub KeysKept : List KeptBase → Type 0
 KeysKept base = (b : ℕ) (kept : KeptBase) → slice_get base b ≡ Some kept → base_erases kept.entry ≡ true → IsSome kept.key
 
--- the base's visit is a refill for this place of this CPU, and the generation after this visit is at least the look
+-- the base's visit is a refill for `place` of this CPU, and the generation after this visit is at least `look`
 abbrev pub NamesIn : ℕ → ℕ → ℕ → Option KeptBase → Type 0
 NamesIn cpu place look None = ⊥
 NamesIn cpu place look (Some kept) = (refill_of kept.entry ≡ Some (cpu, place)) × (look ≤ kept.generation)
@@ -105,7 +105,7 @@ HandedConforms base None handed = handed ≡ None
 HandedConforms base (Some named) handed = (kept : KeptBase) (key : List ℕ) → slice_get base named.1 ≡ Some kept →
     kept.key ≡ Some key → handed ≡ Some (record { key = keystream key 32 32; generation = kept.generation })
 
--- ---- the effect of an entry
+-- ---- the CPU's state after an entry
 
 abbrev pub used : Option CpuValue → CpuValue → CpuValue
 used None c = c
@@ -145,9 +145,9 @@ source_entered (Dump now) key f = no_source
 source_entered Prepare key f = no_source
 source_entered Online key f = no_source
 
--- ---- lanes
+-- ---- the whole list of a CPU
 
--- each entry of a CPU is allowed at its place
+-- each entry of CPU `c` is allowed at its place
 abbrev pub AllCpuMay : Lists → ℕ → Type 0
 AllCpuMay lists c =
     AllPlaces (λ k e. CpuMayCome lists.base c (cpu_after lists.base c (take k (cpu_list lists c))) e) (cpu_list lists c)

@@ -17,7 +17,7 @@ abbrev pub DueInferred : FastPool → Bool → CpuInferred → Type 0
 DueInferred f dumps (cpu_is e) = DueConforms f dumps e
 DueInferred f dumps (batch look width) = ⊤
 
--- the dump that an entry makes, if the entry is a dump
+-- the bytes and bits that the entry dumps from the fast pool `f`, if the entry is a dump
 abbrev pub dump_by : FastPool → CpuEntry → Option Dumped
 dump_by f (Dump now) = Some (record { bytes = dump_bytes f; bits = dump_bits f })
 dump_by f (Read look refill taken) = None
@@ -30,11 +30,11 @@ abbrev pub dump_inferred : FastPool → CpuInferred → Option Dumped
 dump_inferred f (cpu_is e) = dump_by f e
 dump_inferred f (batch look width) = None
 
--- the fast pool of a CPU before place `k` of the CPU's list
+-- the fast pool of CPU `c` before place `k` of the CPU's list
 abbrev pub fast_at : Lists → ℕ → ℕ → FastPool
 fast_at lists c k = fast_after (take k (cpu_list lists c))
 
--- an interrupt at this place makes a dump due exactly if its line has a dump
+-- if `e` is an interrupt at place `k` of CPU `c`, it makes a dump due exactly if its line has a dump
 abbrev pub DueAt : Tables → ℕ → ℕ → CpuEntry → Type 0
 DueAt inferred c k e = (t : InferredCpu) → slice_get (list_at inferred.cpus c) k ≡ Some t →
     DueConforms (fast_at (closed inferred) c k) t.dumps e
@@ -42,7 +42,7 @@ DueAt inferred c k e = (t : InferredCpu) → slice_get (list_at inferred.cpus c)
 abbrev pub AllDue : Tables → Type 0
 AllDue inferred = AllPlaces (λ c lane. AllPlaces (DueAt inferred c) lane) (closed inferred).cpus
 
--- `dump` is the dump of the visit at this place, if the visit is a dump
+-- if the visit `e` is a dump, `dump` has its bytes and bits; otherwise `dump` is none
 abbrev pub DumpIs : Lists → ℕ → ℕ → Option Dumped → CpuEntry → Type 0
 DumpIs lists c k dump e = dump ≡ dump_by (fast_at lists c k) e
 

@@ -41,13 +41,13 @@ first_crossing (InBase kept ∷ met) = first_crossing met
 first_crossing (InCpu on kept ∷ met) = first_crossing met
 first_crossing (Nothing ∷ met) = first_crossing met
 
--- ---- the bytes
+-- ---- the bytes that visits serve
 
 abbrev pub taken_recipe : List ℕ → Taken → Recipe
 taken_recipe key (User n) = user_recipe key n
 taken_recipe key (Kernel n) = kernel_recipe key n
 
--- the bytes of an integer; none if its batch of 96 bytes is used up
+-- the recipe for an integer's bytes; an empty recipe if the batch of 96 bytes is used up
 abbrev pub batch_recipe : List ℕ → ℕ → ℕ → Recipe
 batch_recipe key width count = if nat_lt (width * count) 96 then int_recipe key width count else no_recipe
 
@@ -60,7 +60,7 @@ cpu_recipe (CpuRead look refill taken) (Some key) count = taken_recipe key taken
 cpu_recipe (Int look refill width filled) (Some key) count = batch_recipe key width count
 cpu_recipe _ _ _ = no_recipe
 
--- the bytes that a visit serves
+-- the recipe for the bytes that a visit serves
 abbrev pub recipe_met : KeptStep → Recipe
 recipe_met (Looked g) = no_recipe
 recipe_met (InPool kept) = no_recipe
@@ -72,11 +72,11 @@ abbrev pub recipe_or_none : Option KeptStep → Recipe
 recipe_or_none None = no_recipe
 recipe_or_none (Some met) = recipe_met met
 
--- the bytes of a read are those of its last visit
+-- the recipe for the bytes of a read: those that its last visit serves
 abbrev pub last_recipe : List KeptStep → Recipe
 last_recipe met = recipe_or_none (slice_get met (length met - 1))
 
--- ---- the answers
+-- ---- the answers of events
 
 abbrev pub found_unready : List KeptStep → Bool
 found_unready (Looked g ∷ met) = g == 0
@@ -106,7 +106,7 @@ event_says Reseed met = reseed_says met
 event_says Tick met = tick_says met
 event_says _ met = Done
 
--- the pool's bits before the visit that reads them
+-- the pool's bits before the visit of the event `bits`
 abbrev pub bits_shown : List KeptStep → ShownRecipe
 bits_shown (InPool kept ∷ []) = Count kept.before
 bits_shown _ = ShowsNothing
@@ -131,10 +131,10 @@ act_says ReseedAct met = record { answer = reseed_says met; shows = ShowsNothing
 abbrev pub unused : MadeLine
 unused = record { answer = Unused; shows = ShowsNothing }
 
--- ---- lines
+-- ---- the answer and data of a line
 
 module _ (kept : KeptLists) (set : Setting) where
-  -- the steps have the kinds of a form of the event
+  -- the kinds of the steps are those of a form of the event
   abbrev pub AloneConforms : Event → List Step → Type 0
   AloneConforms event steps =
       IsRow event (first_crossing (met_in kept steps)) (kinds_met (cpu_for set event) (met_in kept steps))
@@ -143,13 +143,14 @@ module _ (kept : KeptLists) (set : Setting) where
   alone_says event steps =
       record { answer = event_says event (met_in kept steps); shows = event_shows event (met_in kept steps) }
 
-  -- if the steps have the kinds of a form, the result is the answer and data made from the steps; otherwise there is no
-  -- result
+  -- if the kinds of the steps are those of a form of the event, the result is the answer and data made from the steps;
+  -- otherwise the result is none
   abbrev pub IsAloneSaid : Event → List Step → Option MadeLine → Type 0
   IsAloneSaid event steps None = AloneConforms event steps → ⊥
   IsAloneSaid event steps (Some said) = AloneConforms event steps × (said ≡ alone_says event steps)
 
-  -- if the point of an act was reached, the steps have the kinds of the act; if not, the act has no steps
+  -- if the act's point was reached (the bool), the kinds of the steps are those of a form of the act; if not, the act
+  -- has no steps
   abbrev pub ActConforms : Bool → InsideAct → List Step → Type 0
   ActConforms true act steps = IsActRow act (kinds_met set.cpu (met_in kept steps))
   ActConforms false act steps = steps ≡ []

@@ -11,16 +11,16 @@ use Rattle.judge_lines.specs.declared.inferred.Sign.TheVariants.{Nowhere as nowh
 use Rattle.judge_lines.specs.Inferred.{telling, silent, ends, act_telling, LineFills, AllFill, FillsPart, first_sign}
 
 module _ (lists : Lists) where
-  -- the visits of a vread have the inferred entries. The line's last step takes n bytes, and each earlier read takes a
-  -- key of 32 bytes
+  -- the visits of a vread have the inferred entries: the read in the line's last step takes `n` bytes, and each earlier
+  -- read takes a key of 32 bytes
   abbrev pub VreadFills : Setting → ℕ → List Effect → Type 0
   VreadFills set n effects = AllFill (FillsPart (facts_of lists) set (User 32) (User n) (first_sign effects)) nowhere nowhere effects
 
   abbrev pub ActFills : Setting → BoundAct → Type 0
   ActFills set bound = LineFills (facts_of lists) set (act_telling bound.act) (effects_of lists bound.line.steps)
 
-  -- each visit of a call's lines has the entry inferred from the steps around it; an act that no vread follows has the
-  -- kind `silent`
+  -- each visit of a call's lines has the entry inferred from the steps around the visit; for an act that no vread
+  -- follows, the line's kind is `silent`
   abbrev pub CallFills : Setting → Call → Type 0
   CallFills set (alone event line) = LineFills (facts_of lists) set (telling set event) (effects_of lists line.steps)
   CallFills set (vread_call n flags line acts) =

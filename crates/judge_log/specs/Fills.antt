@@ -16,7 +16,8 @@ use Rattle.judge_log.specs.declared.inferred.InferredPool.TheVariants.{Is as poo
 use Rattle.judge_log.specs.declared.inferred.InferredCpu.{InferredCpu}
 use Rattle.judge_log.specs.Tables.{Tables}
 
--- the pool's completed entry: a dump's bytes and bits are those of the CPU's fast pool
+-- the pool's entry that completes an inferred entry; if it mixes a dump, its bytes and bits are those of the CPU's fast
+-- pool
 abbrev pub pool_entry : LaneFacts → InferredPool → PoolEntry
 pool_entry c (pool_is note) = entry_of note
 pool_entry c (dumped cpu place) = Mix (dump_bytes (c.fast cpu place)) (dump_bits (c.fast cpu place))

@@ -17,12 +17,12 @@ use Rattle.judge_log.specs.Fills.{Fills}
 use Rattle.judge_log.specs.Lawful.{Lawful}
 use Rattle.judge_log.specs.Filled.{AllCallsFill}
 
--- the book has the CPUs of the script, and the book's visits are the marks of the transcript
+-- the book has as many CPUs as the script, and its visits are the marks of the transcript `t`
 pub record IsBookOf (script : Script) (t : List (List SeenLine)) (book : Book) : Type 0 where
   pub cpus : length book.cpus ≡ script.cpus
   pub visits : VisitsAre book (all_marks t)
 
--- in these lists, each call of each caller has a lawful meaning
+-- with the lists of this book, each call of each caller has the lawful meaning in `ms`
 abbrev pub AllMean : Script → List (List SeenLine) → Book → List (List CallMeaning) → Type 0
 AllMean script t book ms =
     EachCaller (λ c calls ms. CallerMeans (lists_of book) (start_setting (script_calls script t) c) calls ms) 0
@@ -30,7 +30,7 @@ AllMean script t book ms =
 
 pub record IsGathered (script : Script) (t : List (List SeenLine)) (inferred : Tables) : Type 0 where
   pub in_range : InRange inferred
-  -- the tables have a row for each mark
+  -- the tables have as many rows for each lane as the transcript has marks of this lane
   pub pool_count : length inferred.pool ≡ length (lane_marks PoolLane (all_marks t))
   pub base_count : length inferred.base ≡ length (lane_marks BaseLane (all_marks t))
   pub cpus_count : length inferred.cpus ≡ script.cpus
@@ -38,7 +38,7 @@ pub record IsGathered (script : Script) (t : List (List SeenLine)) (inferred : T
   -- the visits of all lines have the entries inferred from their steps exactly if the lists match the tables
   pub fills : (book : Book) → IsBookOf script t book →
       AllCallsFill (lists_of book) (script_calls script t) ↔ Fills inferred (lists_of book)
-  -- the samples of the book are lawful exactly if the dumps of the tables are lawful
+  -- the samples of the book are lawful exactly if the tables meet the conditions on dumps (`Lawful`)
   pub samples : (book : Book) (ms : List (List CallMeaning)) → IsBookOf script t book → AllMean script t book ms →
       Fills inferred (lists_of book) → LawfulLanes (lists_of book) → LawfulSamples book ↔ Lawful inferred (lists_of book)
   -- if the samples of the book are lawful, the samples of each line are lawful

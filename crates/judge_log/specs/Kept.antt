@@ -1,4 +1,4 @@
--- The data kept about the entries of lists.
+-- The data that a replay keeps about the entries of the lanes' lists.
 use Rattle.std.specs.Prelude.{ℕ, ◌≡◌, Option, Some, None, List, map, true, false, if◌then◌else◌}
 use Rattle.key_names.specs.declared.entries.PoolEntry.{PoolEntry}
 use Rattle.key_names.specs.declared.entries.PoolEntry.TheVariants.{Mix, Input, Bits, Extract}
@@ -19,7 +19,7 @@ use Rattle.judge_log.specs.declared.kept.Lists.{Lists as KeptLists}
 use Rattle.judge_log.specs.declared.kept.BytesSource.{BytesSource}
 use Rattle.judge_log.specs.Places.{AllKept}
 
--- the root of an extraction in a state of the pool
+-- the root that the entry extracts from the pool in state `s`, if the entry is an extraction
 abbrev pub root_kept : PoolState → PoolEntry → Option KeptRoot
 root_kept s (Extract hw base_place) = Some (record { value = root_of_extraction s hw; base_place = base_place })
 root_kept s (Mix text bits) = None
@@ -31,7 +31,7 @@ pub record KeepsPool (k : KeptPool) (v : PoolVisit) : Type 0 where
   pub crosses : crossing_of k.crossing ≡ crossing v.before.bits v.after.bits
   pub root : k.root ≡ root_kept v.before v.entry
 
--- `k` has the right data about this visit of the base; `used` is the value of the key in use at the visit
+-- the kept data `k` are right for the visit `v` of the base; `used` is the value of the base's key in use at this visit
 pub record KeepsBase (used : List ℕ) (k : KeptBase) (v : BaseVisit) : Type 0 where
   pub entry : k.entry ≡ v.entry
   pub generation : k.generation ≡ v.after.generation
@@ -44,7 +44,7 @@ abbrev pub source_in : (ℕ → List ℕ) → Option Fill → BytesSource
 source_in used None = no_source
 source_in used (Some fill) = record { key = Some (used fill.place); served = fill.count }
 
--- the source of an entry's bytes, given the key in use at each place of its CPU
+-- what the bytes of a CPU's entry are made from; `used` is the CPU's key in use at each place
 abbrev pub source_of : (ℕ → List ℕ) → (ℕ → Option Fill) → ℕ → CpuEntry → BytesSource
 source_of used fills place (Read look refill taken) = record { key = Some (used place); served = 0 }
 source_of used fills place (Int look refill width true) = record { key = Some (used place); served = 0 }
@@ -54,7 +54,7 @@ source_of used fills place (Dump now) = no_source
 source_of used fills place Prepare = no_source
 source_of used fills place Online = no_source
 
--- `k` has the right data about this visit of a CPU; `used` is the value of the key in use at each of the CPU's places
+-- the kept data `k` are right for the visit `v` of a CPU; `used` is the value of the CPU's key in use at each place
 pub record KeepsCpu (used : ℕ → List ℕ) (k : KeptCpu) (v : CpuVisit) : Type 0 where
   pub entry : k.entry ≡ v.entry
   pub generation : k.generation ≡ v.after.generation
@@ -70,7 +70,7 @@ KeepsBaseLane kept lists =
 abbrev pub KeepsCpuLane : Lists → ℕ → List KeptCpu → List CpuEntry → Type 0
 KeepsCpuLane lists c kept es = AllKept (λ place k e. KeepsCpu (cpu_used_at lists c) k (cpu_visit lists c place e)) kept es
 
--- `kept` has the right data about each visit of each lane
+-- the kept data are right for each visit of each lane in `lists`
 pub record Keeps (kept : KeptLists) (lists : Lists) : Type 0 where
   pub pool : KeepsPoolLane kept.pool.items lists
   pub base : KeepsBaseLane kept.base.items lists

@@ -1,4 +1,4 @@
--- Lists that match the inferred entries are lawful if their lanes and the dumps of the fast pools are lawful.
+-- Lists that match the inferred entries are lawful if their lanes are lawful, and also the dumps of the fast pools.
 use Rattle.std.specs.Prelude.{ℕ, ◌≡◌, ⊤, Bool, Some, take, slice_get}
 use Rattle.key_names.specs.declared.entries.CpuEntry.{CpuEntry}
 use Rattle.key_names.specs.declared.entries.CpuEntry.TheVariants.{Read, Int, Irq, Dump, Prepare, Online}
@@ -8,7 +8,7 @@ use Rattle.judge_log.specs.declared.inferred.InferredPool.TheVariants.{Dumped as
 use Rattle.judge_log.specs.declared.inferred.InferredCpu.{InferredCpu}
 use Rattle.judge_log.specs.Tables.{Tables}
 
--- an interrupt makes a dump due exactly if `dumps` is true: its line has a dump
+-- an interrupt makes a dump of the fast pool `f` due exactly if the bool is true, which means that its line has a dump
 abbrev pub DueConforms : FastPool → Bool → CpuEntry → Type 0
 DueConforms f dumps (Irq v1 v2 now) = makes_due f now ≡ dumps
 DueConforms f dumps (Read look refill taken) = ⊤
@@ -17,15 +17,15 @@ DueConforms f dumps (Dump now) = ⊤
 DueConforms f dumps Prepare = ⊤
 DueConforms f dumps Online = ⊤
 
--- a CPU's visit at this place is a dump
+-- the visit at `place` of CPU `cpu` is a dump
 pub record DumpsAt (lists : Lists) (cpu place : ℕ) : Type 0 where
   pub now : ℕ
   pub is : slice_get (cpu_list lists cpu) place ≡ Some (Dump now)
 
 pub record Lawful (inferred : Tables) (lists : Lists) : Type 0 where
   pub lanes : LawfulLanes lists
-  -- an interrupt makes a dump due exactly if its line has a dump next
+  -- an interrupt makes a dump due exactly if the next step of its line is a dump
   pub dues : (c k : ℕ) (t : InferredCpu) (e : CpuEntry) → slice_get (list_at inferred.cpus c) k ≡ Some t →
       slice_get (cpu_list lists c) k ≡ Some e → DueConforms (fast_after (take k (cpu_list lists c))) t.dumps e
-  -- each mix of a dump names a place at which a CPU's entry is a dump
+  -- if an entry of the pool mixes the dump at `place` of CPU `cpu`, the CPU's entry at this place is a dump
   pub mixes : (p cpu place : ℕ) → slice_get inferred.pool p ≡ Some (dumped cpu place) → DumpsAt lists cpu place

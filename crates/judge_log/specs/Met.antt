@@ -1,4 +1,4 @@
--- The data kept about a line's steps, and the line's seen steps.
+-- The data kept about the steps of a line, and the seen steps made from them (kinds, found generations and keys).
 use Rattle.std.specs.Prelude.{ℕ, ◌==◌, Bool, true, false, Option, Some, None, List, map, slice_get, unwrap_or}
 use Rattle.std.specs.Prelude.{if◌then◌else◌}
 use Rattle.std.specs.Global.{Vec}
@@ -40,7 +40,7 @@ mark_met kept PoolLane place = pool_met (slice_get kept.pool.items place)
 mark_met kept BaseLane place = base_met (slice_get kept.base.items place)
 mark_met kept (CpuLane cpu) place = lane_met cpu place (slice_get kept.cpus.items cpu)
 
--- a step, with the data kept about its visit
+-- a step; if it is a visit, with the data kept about this visit
 abbrev pub met_at : KeptLists → Step → KeptStep
 met_at kept (Look found) = Looked found
 met_at kept (Marked mark) = mark_met kept mark.lane mark.place
@@ -59,7 +59,7 @@ abbrev pub cpu_seen : Bool → List ℕ → SeenStep
 cpu_seen true key = Cpu key
 cpu_seen false key = Elsewhere
 
--- the seen step; `cpu` is the line's CPU
+-- the seen step (kind, found generation or key) made from the kept data; `cpu` is the CPU of the step's line
 abbrev pub seen_of : ℕ → KeptStep → SeenStep
 seen_of cpu (Looked g) = look_seen g
 seen_of cpu (InPool kept) = Pool

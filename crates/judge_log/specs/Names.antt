@@ -19,7 +19,7 @@ abbrev pub AllExtractionsAnswered : List KeptPool → List KeptBase → Type 0
 AllExtractionsAnswered pool base = (p : ℕ) (kept : KeptPool) (root : KeptRoot) → slice_get pool p ≡ Some kept →
     kept.root ≡ Some root → root_named_in base root.base_place ≡ Some p
 
--- if a visit of the base names an entry of a CPU, that entry names the visit back
+-- if the base's visit at place `b` names an entry of a CPU, that entry names place `b` back
 abbrev pub AnsweredBy : List (List KeptCpu) → ℕ → Option (ℕ × ℕ) → Type 0
 AnsweredBy cpus b None = ⊤
 AnsweredBy cpus b (Some named) = refill_named_in cpus named.0 named.1 ≡ Some b

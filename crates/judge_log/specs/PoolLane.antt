@@ -20,7 +20,7 @@ pub record LaneConforms (lane : PoolReplay) (s : PoolState) : Type 0 where
   pub value : lane.timer.value ≡ s.value
   pub timer : lane.timer.timer ≡ s.timer
 
--- the dump of CPU `c` at place `k` in the table `dumps`
+-- the dump at place `k` of CPU `c`, found in the table `dumps`
 abbrev pub dump_in : List (List (Option Dump)) → ℕ → ℕ → Option Dump
 dump_in dumps c k = option_and_then (λ lane. option_and_then (λ dump. dump) (slice_get lane k)) (slice_get dumps c)
 
@@ -32,7 +32,7 @@ abbrev pub entry_found : List (List (Option Dump)) → InferredPool → Option P
 entry_found dumps (pool_is note) = Some (entry_of note)
 entry_found dumps (dumped c k) = option_and_then mix_of (dump_in dumps c k)
 
--- if the entry mixes a dump, it names a place at which a CPU's entry is a dump
+-- if the entry of the pool mixes a dump, the CPU's entry at the place that it names is a dump
 abbrev pub MixConforms : Lists → InferredPool → Type 0
 MixConforms lists (pool_is note) = ⊤
 MixConforms lists (dumped c k) = DumpsAt lists c k

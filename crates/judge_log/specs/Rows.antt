@@ -1,4 +1,4 @@
--- The tables have, at the place of each mark, the entry inferred for this mark.
+-- At the place of each mark, the tables have the entry inferred for this mark.
 use Rattle.std.specs.Prelude.{ℕ, ◌≡◌, ◌<◌, ⊤, Bool, true, false, Some, List, [], ◌∷◌, length, slice_get}
 use Rattle.std.specs.List.{AllByRecursion}
 use Rattle.key_names.specs.declared.entries.PoolEntry.TheVariants.{Extract}
@@ -24,7 +24,7 @@ use Rattle.judge_log.specs.declared.inferred.InferredPool.TheVariants.{Is as poo
 use Rattle.judge_log.specs.declared.inferred.InferredCpu.{InferredCpu}
 use Rattle.judge_log.specs.Tables.{Tables}
 
--- ---- the visible part of a step
+-- ---- the visible part of a step: its lane and place
 
 abbrev pub lane_sign : LaneId → ℕ → Sign
 lane_sign PoolLane place = in_pool place
@@ -39,9 +39,9 @@ abbrev pub first_shown : List Step → Sign
 first_shown [] = nowhere
 first_shown (step ∷ steps) = step_sign step
 
--- ---- the rows
+-- ---- the rows of the tables
 
--- a row of the pool has the inferred entry
+-- the pool's row is the entry that is inferred
 abbrev pub IsPoolRow : Setting → Telling → PoolInferred → InferredPool → Type 0
 IsPoolRow set t own (pool_is note) = entry_of note ≡ own_entry t
 IsPoolRow set t own (dumped cpu place) = ⊥
@@ -55,7 +55,8 @@ pub record PoolRowAt (inferred : Tables) (set : Setting) (t : Telling) (neighbou
   pub is : slice_get inferred.pool place ≡ Some row
   pub tells : IsPoolRow set t (pool_inferred t neighbours) row
 
--- whether a sign is a visit of a CPU; after the sample of an interrupt, such a visit is a dump
+-- whether the visible part of a step is a visit of a CPU; in an interrupt's line, such a visit right after the sample
+-- is a dump
 abbrev pub is_on_cpu : Sign → Bool
 is_on_cpu (in_cpu c k) = true
 is_on_cpu _ = false
@@ -74,20 +75,22 @@ RowAt inferred set t first neighbours BaseLane place = slice_get inferred.base p
 RowAt inferred set t first neighbours (CpuLane c) place =
     slice_get (list_at inferred.cpus c) place ≡ Some (cpu_row set t first neighbours)
 
--- ---- a line
+-- ---- the rows of one line
 
--- `R` holds of each step with the steps around it; `a` and `b` are the signs of the two steps before the first
+-- `R` holds of each step with its neighbours (the steps around it); `a` and `b` are the signs of the two steps before
+-- the first
 abbrev pub AllRows : (Neighbours → Step → Type 0) → Sign → Sign → List Step → Type 0
 AllRows R a b [] = ⊤
 AllRows R a b (step ∷ steps) =
     R (record { second_before = a; before = b; following = first_shown steps }) step × AllRows R b (step_sign step) steps
 
--- a step of a vread's line is inferred as part of a read: of n bytes if no step follows, and otherwise of 32 bytes
+-- the kind of a vread's line at one step: a read of n bytes if no step follows, and otherwise a read of 32 bytes
 abbrev pub part_telling : ℕ → Neighbours → Telling
 part_telling n neighbours = reads (taken_by (User 32) (User n) neighbours.following)
 
 module _ (inferred : Tables) where
-  -- if the step is a visit, its row is the one inferred from the line's kind and the steps around the visit
+  -- if the step is a visit, the row at its place is the one inferred from the line's kind and the steps around the
+  -- visit
   abbrev pub RowConforms : Setting → (Neighbours → Telling) → Sign → Neighbours → Step → Type 0
   RowConforms set tell first neighbours (Look g) = ⊤
   RowConforms set tell first neighbours (Marked mark) = RowAt inferred set (tell neighbours) first neighbours mark.lane mark.place
@@ -98,7 +101,8 @@ module _ (inferred : Tables) where
   abbrev pub ActRows : Setting → BoundAct → Type 0
   ActRows set bound = LineRows set (λ neighbours. act_telling bound.act) bound.line.steps
 
-  -- the marks of a call's lines have their rows; `set` is the setting of the call
+  -- at the places of the marks of a call's lines, the tables have the rows inferred for them; `set` is the call's
+  -- setting
   abbrev pub CallRows : Setting → Call → Type 0
   CallRows set (alone event line) = LineRows set (λ neighbours. telling set event) line.steps
   CallRows set (vread_call n flags line acts) =
@@ -110,6 +114,6 @@ module _ (inferred : Tables) where
   CallsRows set [] = ⊤
   CallsRows set (call ∷ calls) = CallRows set call × CallsRows (setting_after_call set call) calls
 
-  -- the marks of all callers' lines have their rows
+  -- at the places of the marks of all callers' lines, the tables have the rows inferred for them
   abbrev pub AllCallsRows : List (List Call) → Type 0
   AllCallsRows callers = (c : ℕ) → c < length callers → CallsRows (start_setting callers c) (list_at callers c)

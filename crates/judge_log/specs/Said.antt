@@ -19,31 +19,31 @@ shown_by Nothing = no_data
 shown_by (Count n) = count n
 shown_by (Served recipe) = bytes_or_none (bytes_made recipe)
 
--- the note at an event's number is a note of this answer and data
+-- `notes` has, at this event's number, a note of the answer and data `one`
 pub record NotedAt {Noted : Type 0} (IsNoted : ℕ → MadeLine → Noted → Type 0) (notes : List Noted) (event : ℕ)
     (one : MadeLine) : Type 0 where
   pub note : Noted
   pub is : slice_get notes event ≡ Some note
   pub noted : IsNoted event one note
 
--- a note that is the whole answer and data
+-- `noted` is the whole answer and data
 abbrev pub itself : ℕ → ℕ → MadeLine → MadeLine → Type 0
 itself caller event said noted = noted ≡ said
 
--- the answer and data at the line's event number equal those of the line's meaning
+-- `At` holds of the line's event number with an answer and data, which are those of the line's meaning `m`
 pub record SaysIt (At : ℕ → MadeLine → Type 0) (line : SeenLine) (m : LineMeaning) : Type 0 where
   pub one : MadeLine
   pub is : At line.event one
   pub answer : m.answer ≡ one.answer
   pub shown : m.shown ≡ shown_by one.shows
 
--- the calls have lawful meanings, with these answers and data
+-- the calls have lawful meanings, and `At` holds of each event's number with the answer and data of these meanings
 pub record IsSaid (lists : Lists) (set : Setting) (calls : List Call) (At : ℕ → MadeLine → Type 0) : Type 0 where
   pub meanings : List CallMeaning
   pub mean : CallerMeans lists set calls meanings
   pub says : EachLine (SaysIt At) calls meanings
 
--- the calls group these events and lines, each event has its line, and all looks are below 2^63
+-- the calls group the events with their lines, one line for each event, and all looks found generations below 2^63
 pub record AreCallsOf (events : List Event) (lines : List SeenLine) (calls : List Call) : Type 0 where
   pub caller : ℕ
   pub fit : LinesFit caller 0 events lines
@@ -54,7 +54,7 @@ abbrev pub StateInRange : Event → Type 0
 StateInRange (State number) = number < 16
 StateInRange _ = ⊤
 
--- a vread has at most 2^20 bytes, and a chosen state is one of sixteen
+-- a vread has at most 2^20 bytes, and the event `state` has a number below 16
 abbrev pub CallInRange : Call → Type 0
 CallInRange (alone event line) = StateInRange event
 CallInRange (vread_call len flags line acts) = len ≤ 2 ^ 20

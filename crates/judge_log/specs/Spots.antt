@@ -19,16 +19,17 @@ use Rattle.judge_log.specs.declared.gather.LineKind.TheVariants.{Event as EventL
 use Rattle.judge_log.specs.declared.gather.LineKind.TheVariants.{Nothing as NoLineKind}
 use Rattle.judge_log.specs.Rows.{RowAt, part_telling, first_shown, step_sign}
 
--- the kind of a line at one of its steps; only the kind of a vread's line depends on the step
+-- the kind of a line, given the steps around one of its steps; only the kind of a vread's line depends on them
 abbrev pub tells_by : Setting → LineKind → Neighbours → Telling
 tells_by set (EventLineKind event) neighbours = telling set event.now
 tells_by set (ActLineKind act) neighbours = act_telling act
 tells_by set (VreadLineKind n) neighbours = part_telling n neighbours
 tells_by set NoLineKind neighbours = silent
 
--- ---- the inferred entries, step by step
+-- ---- the spots of lines and of calls
 
--- a step with the setting, the kind of the step's line, and the steps around the step
+-- a step with all that its entry is inferred from: the setting, the line's kind, the line's first step, and the steps
+-- around it
 pub record Spot : Type 0 where
   pub set : Setting
   pub tells : Telling
@@ -68,25 +69,25 @@ callers_spots [] settings = []
 callers_spots (calls ∷ callers) [] = []
 callers_spots (calls ∷ callers) (sets ∷ settings) = calls_spots calls sets ++ callers_spots callers settings
 
--- ---- the tables
+-- ---- tables that change by the rows of spots
 
 abbrev pub rows_in : Tables → LaneId → ℕ
 rows_in inferred PoolLane = length inferred.pool
 rows_in inferred BaseLane = length inferred.base
 rows_in inferred (CpuLane c) = length (list_at inferred.cpus c)
 
--- the row at this place is unchanged
+-- the row at `place` of the lane is the same in `old` and `new`
 abbrev pub SameRow : Tables → Tables → LaneId → ℕ → Type 0
 SameRow old new PoolLane place = slice_get new.pool place ≡ slice_get old.pool place
 SameRow old new BaseLane place = slice_get new.base place ≡ slice_get old.base place
 SameRow old new (CpuLane c) place = slice_get (list_at new.cpus c) place ≡ slice_get (list_at old.cpus c) place
 
--- whether the step visits this place of this lane
+-- whether the step visits `place` of `lane`
 abbrev pub is_visit : LaneId → ℕ → Step → Bool
 is_visit lane place (Look g) = false
 is_visit lane place (Marked mark) = is_same_lane mark.lane lane && mark.place == place
 
--- the first option if it is some, and otherwise `other`; by this, `last_at` finds the last spot that visits a place
+-- the first option if it is some, and otherwise `other`; `last_at` uses this to find the last spot that visits a place
 abbrev pub or_else : {A : Type 0} → Option A → Option A → Option A
 or_else None other = other
 or_else (Some a) other = Some a
@@ -99,23 +100,24 @@ last_at lane place (spot ∷ spots) =
 abbrev pub SpotRow : Tables → Spot → LaneId → ℕ → Type 0
 SpotRow inferred spot lane place = RowAt inferred spot.set spot.tells spot.first spot.neighbours lane place
 
--- `new` is `old` after the rows of these spots are put: a place has the row of its last spot, or is unchanged if no
--- spot visits it
+-- `new` is `old` after the rows of these spots are put: each place has the row of the last spot that visits it, or is
+-- unchanged if none does
 pub record Changes (spots : List Spot) (old new : Tables) : Type 0 where
   pub cpus : length new.cpus ≡ length old.cpus
   pub sizes : (lane : LaneId) → rows_in new lane ≡ rows_in old lane
   pub rows : (lane : LaneId) (place : ℕ) → MatchOption (last_at lane place spots) (SameRow old new lane place)
       (λ spot. place < rows_in old lane → SpotRow new spot lane place)
 
--- ---- tables with a row for each mark
+-- ---- making tables longer, row by row
 
--- this lane has one more row, and each other lane has as many rows as before
+-- in `new`, the table of `lane` has one more row than in `old`, and the tables of other lanes have as many rows as
+-- before
 pub record IsLonger (lane : LaneId) (old new : Tables) : Type 0 where
   pub cpus : length new.cpus ≡ length old.cpus
   pub rows : (other : LaneId) →
       rows_in new other ≡ (if is_same_lane lane other then suc (rows_in old other) else rows_in old other)
 
--- the lane is a CPU that does not exist
+-- the lane is a CPU, and its number is not below the number of CPUs
 abbrev pub IsAbsent : ℕ → LaneId → Type 0
 IsAbsent cpus PoolLane = ⊥
 IsAbsent cpus BaseLane = ⊥

@@ -29,9 +29,9 @@ tables_of inferred = record {
   cpus = map (λ lane. lane.items) inferred.cpus.items;
 }
 
--- ---- ranges
+-- ---- the ranges of the numbers in the tables
 
--- the moment of an input event is below 2^40
+-- if the note is an input event, its moment is below 2^40 ms
 abbrev pub NoteIsNear : PoolNote → Type 0
 NoteIsNear (InputNote word kind code value now) = now < 2 ^ 40
 NoteIsNear (MixNote text bits) = ⊤
@@ -43,7 +43,7 @@ abbrev pub PoolIsNear : InferredPool → Type 0
 PoolIsNear (pool_is note) = NoteIsNear note
 PoolIsNear (dumped cpu place) = ⊤
 
--- the moment of a reseed or a tick is below 2^40
+-- if the entry is a reseed or a tick, its moment is below 2^40 ms
 abbrev pub EntryIsNear : BaseEntry → Type 0
 EntryIsNear (Reseed root now) = now < 2 ^ 40
 EntryIsNear (Tick now root) = now < 2 ^ 40
@@ -63,7 +63,7 @@ BaseIsNear (base_is e) = EntryIsNear e
 BaseIsNear (crossed root now credit) = now < 2 ^ 40
 BaseIsNear woken = ⊤
 
--- integers have 1, 2, 4 or 8 bytes
+-- integers of this width are in range: they have 1, 2, 4 or 8 bytes
 abbrev pub IsWidth : ℕ → Type 0
 IsWidth width = (width ≡ 1) ⊎ ((width ≡ 2) ⊎ ((width ≡ 4) ⊎ (width ≡ 8)))
 
@@ -79,7 +79,7 @@ abbrev pub CpuIsWide : CpuInferred → Type 0
 CpuIsWide (cpu_is e) = EntryIsWide e
 CpuIsWide (batch look width) = IsWidth width
 
--- the ranges of a transcript's tables: fewer than 2^32 CPUs, moments below 2^40, and the widths of integers
+-- the tables are in range: fewer than 2^32 CPUs, moments below 2^40 ms, and integers of 1, 2, 4 or 8 bytes
 pub record InRange (inferred : Tables) : Type 0 where
   pub cpus_count : length inferred.cpus < 2 ^ 32
   pub notes : All PoolIsNear inferred.pool

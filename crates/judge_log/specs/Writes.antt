@@ -9,12 +9,12 @@ pub record Write : Type 0 where
   pub said : MadeLine
 
 module _ {Noted : Type 0} (IsNoted : ℕ → MadeLine → Noted → Type 0) where
-  -- a note is put at an event's number, and no other note changes
+  -- `new` is `old` with a note of `one` at the event's number, and all other notes of `old` unchanged
   pub record IsPut (event : ℕ) (one : MadeLine) (old new : List Noted) : Type 0 where
     pub here : NotedAt IsNoted new event one
     pub others : (k : ℕ) (x : Noted) → k ≢ event → slice_get old k ≡ Some x → slice_get new k ≡ Some x
 
-  -- these answers and data are noted one after another
+  -- `new` is `old` after the answers and data in the list are noted one after another
   abbrev pub Written : List Write → List Noted → List Noted → Type 0
   Written [] old new = new ≡ old
   Written (w ∷ writes) old new = (mid : List Noted) × IsPut w.event w.said old mid × Written writes mid new

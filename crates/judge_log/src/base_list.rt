@@ -18,7 +18,7 @@ use judge_lines::inferred::BaseInferred;
 use key_names::BaseEntry;
 use std::alloc::{AllocError, Global};
 
-/// Whether the base's phase, generation, timer and running count allow an entry.
+/// Whether the phase, generation, timer and running count of `base` allow `entry`.
 fn fits(base: &Base, entry: BaseEntry) -> bool
     ensures { IsTrue result ↔ Fits base.now entry }
 {
@@ -64,7 +64,7 @@ fn enter(base: &mut Base, entry: BaseEntry, root: [u8; 32]) -> Option<[u8; 32]>
     None
 }
 
-/// The crossing that the entry at a place of the pool makes.
+/// The crossing (of 128 or of 256 bits) that the entry at `place` of the pool makes, if it makes one.
 fn crossed_at(pool: &[KeptPool], place: u64) -> Crossing
     ensures { crossing_of result ≡ crossed_of pool.now place }
 {

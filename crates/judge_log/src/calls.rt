@@ -70,7 +70,7 @@ impl<N: Note> CallerWalk<'_, N> {
         Ok(true)
     }
 
-    // Handles a caller's last line. Returns whether the line's steps match a form of the end.
+    // Handles a caller's last line. Returns whether the line's steps match a form of the caller's end.
     fn ending(&mut self, set: &LineSetting, line: BareLine<'_>) -> Result<bool, AllocError>
         ensures lists { self.new.lists ≡ self.old.lists }
         ensures notes { self.new.notes ≡ record self.old.notes { noted = self.new.notes.noted } }
@@ -161,7 +161,7 @@ fn calls_said<N: Note>(
 ///
 /// # Errors
 ///
-/// `AllocError` if there is no memory for them.
+/// `AllocError` if there is no memory for the notes.
 pub fn caller_said<N: Note>(
     alloc: Global,
     calls: &[CalledLines<'_>],

@@ -22,7 +22,7 @@ use judge_lines::inferred::CpuInferred;
 use key_names::{BaseEntry, CpuEntry};
 use std::alloc::{AllocError, Global};
 
-/// The look and the refill that an entry names, if it names one.
+/// The look of the entry, and the place of the base's refill that the entry names, if it names one.
 fn refill_named(entry: CpuEntry) -> Option<(u64, u64)>
     ensures { result ≡ refill_named entry }
 {
@@ -54,7 +54,7 @@ fn refills(kept: &KeptBase, cpu: u32, place: u64, look: u64) -> bool
     }
 }
 
-/// The data kept about the base's visit at a place.
+/// The data kept about the base's visit at `place`.
 fn kept_at(base: &[KeptBase], place: u64) -> Option<KeptBase>
     ensures { result ≡ slice_get base.now place }
 {

@@ -67,7 +67,7 @@ fn sign_at(steps: &[Step], number: usize) -> Sign
     }
 }
 
-// The event's own entry of the pool.
+// The pool's entry that the event makes from its own fields, such as the mix of a written text.
 fn own_note<'a>(set: &LineSetting, event: &'a Event) -> PoolNote<'a>
     ensures { entry_of result ≡ forms.own_entry (forms.telling set.now event.now) }
 {
@@ -268,7 +268,7 @@ fn put_row<'a>(
     }
 }
 
-// Puts the rows of a line's visits at their places.
+// Puts the row of each visit of a line at the place that is visited.
 fn tell_line<'a>(
     inferred: &mut InferredEntries<'a>,
     set: &LineSetting,
@@ -329,7 +329,7 @@ fn tell_call<'a>(inferred: &mut InferredEntries<'a>, set: &LineSetting, call: &C
     }
 }
 
-// Puts the rows of a caller's calls. Each call has its setting.
+// Puts the rows of all calls of a caller; each call is taken with its setting.
 fn tell_calls<'a>(
     inferred: &mut InferredEntries<'a>,
     calls: &[CalledLines<'a>],
@@ -355,7 +355,7 @@ fn tell_callers<'a>(
     }
 }
 
-// Tables without rows, for this many CPUs.
+// Tables without rows, one for each of `cpus` CPUs.
 fn bare_lanes(alloc: Global, cpus: u32) -> Result<Vec<Vec<InferredCpu>>, AllocError>
     ensures long { IfOk result (λ lanes. length lanes.items ≡ cpus) }
     ensures bare { IfOk result (λ lanes. (c : ℕ) → list_at (map (λ lane. lane.items) lanes.items) c ≡ []) }

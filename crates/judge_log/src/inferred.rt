@@ -2,20 +2,20 @@
 use judge_lines::inferred::{BaseInferred, CpuInferred};
 use key_names::PoolNote;
 
-/// The inferred entry of a visit of the pool.
+/// The entry of the pool that is inferred for a visit.
 #[derive(Clone, Copy)]
 pub enum InferredPool<'a> {
-    /// A known entry: the event's own entry, or an extraction.
+    /// An entry that is known in full: one that the event makes from its own fields, or an extraction.
     Is(PoolNote<'a>),
-    /// The mix of the dump at this place of a CPU.
+    /// An entry that mixes the dump made at this place of this CPU.
     Dumped { cpu: u32, place: u64 },
 }
 
-/// The inferred entry of a visit of a CPU.
+/// The entry of a CPU that is inferred for a visit.
 #[derive(Clone, Copy, Debug, PartialEq, Eq)]
 pub struct InferredCpu {
     pub entry: CpuInferred,
-    /// Whether the visit's line dumps the CPU's fast pool after this visit. This matters only for an interrupt.
+    /// Whether, in an interrupt's line, the next step dumps the CPU's fast pool. This matters only for the sample.
     pub dumps: bool,
 }
 

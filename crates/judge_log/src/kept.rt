@@ -5,7 +5,7 @@ ghost use Rattle.judge_log.specs.Kept.{no_source};
 use input_pool::Crossing;
 use key_names::{BaseEntry, CpuEntry};
 
-/// A root from the pool, and the base's place that its extraction names.
+/// A root from the pool, and the place of the base's entry that the extraction names.
 #[derive(Clone, Copy, Debug, PartialEq, Eq)]
 pub struct KeptRoot {
     pub value: [u8; 32],
@@ -19,7 +19,7 @@ pub struct KeptPool {
     pub before: u32,
     /// The crossing of 128 or 256 bits by this visit, if it makes one.
     pub crossing: Crossing,
-    /// The root, if the entry is an extraction.
+    /// The root, if the visit is an extraction.
     pub root: Option<KeptRoot>,
 }
 
@@ -29,11 +29,11 @@ pub struct KeptBase {
     pub entry: BaseEntry,
     /// The number of reseeds of the base, including this visit.
     pub generation: u64,
-    /// The key in use, if the entry erases it.
+    /// The base's key in use, if the visit erases it.
     pub key: Option<[u8; 32]>,
 }
 
-/// What the bytes of a CPU's entry are made from, if the entry serves any.
+/// What the bytes of a CPU's visit are made from, if the visit serves any.
 #[derive(Clone, Copy, Debug, PartialEq, Eq)]
 pub struct BytesSource {
     /// The key in use: for a read, at the visit; for an integer, when its batch was filled.
@@ -43,7 +43,7 @@ pub struct BytesSource {
 }
 
 impl BytesSource {
-    /// No bytes are served.
+    /// The source of a visit that serves no bytes.
     pub(crate) fn none() -> BytesSource
         ensures { result ≡ no_source }
     {

@@ -3,7 +3,7 @@ ghost use Rattle.std.specs.Prelude.{◌≡◌, ◌↔◌, IsTrue};
 ghost use Rattle.judge_log.specs.CpuLane.{slot, put, no_fills, wants_kept};
 ghost use Rattle.judge_log.specs.Tables.{IsWidth};
 
-/// The bytes of a batch.
+/// The number of bytes in a batch.
 const BATCH_BYTES: u8 = 96;
 
 /// The last fill of a batch: its look, the key that was in use, and how many integers the batch has served since, the
@@ -25,7 +25,7 @@ pub(crate) struct LastFills {
 }
 
 impl LastFills {
-    /// No batch was filled.
+    /// The fills of a CPU whose batches were never filled.
     pub(crate) fn none() -> LastFills
         ensures { result ≡ no_fills }
     {
@@ -37,7 +37,7 @@ impl LastFills {
         }
     }
 
-    /// The last fill of the batch of this width.
+    /// The last fill of the batch with integers of `width` bytes.
     pub(crate) fn last(&self, width: u8) -> Option<LastFill>
         ensures { result ≡ slot self.now width }
     {
@@ -50,7 +50,7 @@ impl LastFills {
         }
     }
 
-    /// Sets the last fill of the batch of this width.
+    /// Sets the last fill of the batch with integers of `width` bytes.
     pub(crate) fn put(&mut self, width: u8, fill: Option<LastFill>)
         ensures { self.new ≡ put width fill self.old }
     {

@@ -1,4 +1,4 @@
-//! Looks up the data kept about a line's steps, and makes the line's seen steps and kinds from them.
+//! Looks up the data that the replay kept about a line's steps, and makes the line's seen steps and kinds from them.
 ghost use Rattle.std.specs.Prelude.{◌≡◌, ℕ, List, [], OnOk, slice_get, unwrap_or};
 ghost use Rattle.key_names.specs.Keys.KeyInUse.{zero_key};
 ghost use Rattle.judge_lines.specs.Kinds.{is_resume};
@@ -20,7 +20,7 @@ pub enum KeptStep {
     InBase(KeptBase),
     /// A visit of the CPU with this number.
     InCpu(u32, KeptCpu),
-    /// A visit without kept data.
+    /// A visit of which no data were kept.
     Nothing,
 }
 
@@ -77,7 +77,7 @@ pub struct LineSpace {
 }
 
 impl LineSpace {
-    /// Memory without any content yet.
+    /// Empty memory for the steps of a line.
     pub fn new(alloc: Global) -> LineSpace
         ensures met { result.met.items ≡ [] }
         ensures seen { result.seen.items ≡ [] }
@@ -95,7 +95,7 @@ impl LineSpace {
 ///
 /// # Errors
 ///
-/// `AllocError` if there is no memory for them.
+/// `AllocError` if there is no memory for the steps.
 pub fn put_met(met: &mut Vec<KeptStep>, lists: &Lists, steps: &[Step]) -> Result<(), AllocError>
     ensures { OnOk result (met.new.items ≡ met_in lists.now steps.now) }
 {
@@ -115,7 +115,7 @@ fn base_seen(kept: &KeptBase) -> SeenStep
     }
 }
 
-// The seen step; `cpu` is the line's CPU.
+// The seen step (kind, found generation or key) made from the kept data; `cpu` is the line's CPU.
 fn seen_of(cpu: u32, met: &KeptStep) -> SeenStep
     ensures { result ≡ seen_of cpu met.now }
 {
@@ -131,11 +131,11 @@ fn seen_of(cpu: u32, met: &KeptStep) -> SeenStep
     }
 }
 
-/// Replaces the content of `seen` by the seen steps of a line on this CPU.
+/// Replaces the content of `seen` by the seen steps of a line, made from the kept data `met`; `cpu` is the line's CPU.
 ///
 /// # Errors
 ///
-/// `AllocError` if there is no memory for them.
+/// `AllocError` if there is no memory for the seen steps.
 pub fn put_seen(seen: &mut Vec<SeenStep>, cpu: u32, met: &[KeptStep]) -> Result<(), AllocError>
     ensures { OnOk result (seen.new.items ≡ seen_in cpu met.now) }
 {
@@ -173,7 +173,7 @@ fn kind_met(cpu: u32, met: &KeptStep) -> Kind
 ///
 /// # Errors
 ///
-/// `AllocError` if there is no memory for them.
+/// `AllocError` if there is no memory for the kinds.
 pub fn put_kinds(kinds: &mut Vec<Kind>, cpu: u32, met: &[KeptStep]) -> Result<(), AllocError>
     ensures { OnOk result (kinds.new.items ≡ kinds_met cpu met.now) }
 {

@@ -9,7 +9,7 @@ ghost use Rattle.judge_log.specs.Names.{AllRefillsAnswered};
 use crate::kept::{KeptBase, KeptCpu, KeptPool};
 use key_names::{BaseEntry, CpuEntry};
 
-/// The root that an entry names.
+/// The place of the extraction whose root an entry of the base takes, if the entry names one.
 pub fn root_of(entry: BaseEntry) -> Option<u64>
     ensures { result ≡ root_of entry }
 {
@@ -21,7 +21,7 @@ pub fn root_of(entry: BaseEntry) -> Option<u64>
     }
 }
 
-/// The refill that an entry names.
+/// The place of the base's refill that gives an entry of a CPU its key, if the entry names one.
 pub fn base_refill_of(entry: CpuEntry) -> Option<u64>
     ensures { result ≡ base_refill_of entry }
 {
@@ -31,7 +31,7 @@ pub fn base_refill_of(entry: CpuEntry) -> Option<u64>
     }
 }
 
-/// The root that the base's entry at a place names.
+/// The place of the extraction that the base's entry at `place` names.
 fn root_at(base: &[KeptBase], place: u64) -> Option<u64>
     ensures { result ≡ root_named_in base.now place }
 {
@@ -52,14 +52,14 @@ pub(crate) fn extractions_answered(pool: &[KeptPool], base: &[KeptBase]) -> bool
     true
 }
 
-/// The refill that the entry at a place of a CPU names.
+/// The place of the base's refill that the entry at `place` of `cpu` names.
 fn refill_at(cpus: &[Vec<KeptCpu>], cpu: u32, place: u64) -> Option<u64>
     ensures { result ≡ refill_named_in (map (λ lane. lane.items) cpus.now) cpu place }
 {
     base_refill_of(cpus.get(cpu as usize)?.get(place as usize)?.entry)
 }
 
-/// If this visit of the base is a refill, whether the named entry of a CPU names the refill back. Otherwise true.
+/// If the base's visit at `place` is a refill, whether the CPU's entry that it names names it back. Otherwise true.
 fn refill_answered(kept: &KeptBase, place: u64, cpus: &[Vec<KeptCpu>]) -> bool
     ensures { IsTrue result ↔ AnsweredBy (map (λ lane. lane.items) cpus.now) place (refill_of kept.now.entry) }
 {

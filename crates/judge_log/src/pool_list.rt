@@ -37,7 +37,7 @@ fn crossed(before: u32, after: u32) -> Crossing
     }
 }
 
-/// The input pool, and the timer of input events.
+/// The input pool, and the timer of its input events, while the pool's list is replayed.
 #[derive(Drop)]
 pub(crate) struct PoolReplay {
     pub(crate) pool: Pool,
@@ -108,7 +108,7 @@ impl PoolReplay {
     }
 }
 
-/// The dump at a place of a CPU.
+/// The dump that the visit at `place` of `cpu` made, if this visit is a dump.
 fn dump_at(dumps: &[Vec<Option<Dump>>], cpu: u32, place: u64) -> Option<Dump>
     ensures { result ≡ dump_in (map (λ lane. lane.items) dumps.now) cpu place }
 {

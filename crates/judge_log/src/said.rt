@@ -24,10 +24,11 @@ pub struct MadeLine {
 pub trait Note {
     type Noted: Drop;
 
-    /// The last argument is a note of this answer and data. The two numbers are those of the caller and of the event.
+    /// Whether the last argument is a note of the answer and data `said`. The two numbers are the caller's and the
+    /// event's.
     ghost IsNoted: { Self → ℕ → ℕ → SaidOfLine → Self.Noted → Type 0 };
 
-    /// Makes the note of this event of this caller.
+    /// Makes the note of an event's answer and data; `event` is its number among the events of `caller`.
     fn note(&self, caller: u32, event: u32, said: MadeLine) -> Self::Noted
         ensures { IsNoted self.now caller event said result };
 }

@@ -13,12 +13,12 @@ use key_names::CpuEntry;
 use sample_credit::{Dump, FastPool};
 use std::alloc::{AllocError, Global};
 
-/// The effect of a CPU's visit on its fast pool.
+/// What a CPU's visit did to its fast pool.
 #[derive(Drop)]
 pub(crate) struct SampleEffect {
     /// For an interrupt: whether it makes a dump due exactly if its line has a dump. For any other visit: true.
     pub(crate) fits: bool,
-    /// The dump, if the visit is one.
+    /// The dump, if the visit dumps the fast pool.
     pub(crate) dump: Option<Dump>,
 }
 

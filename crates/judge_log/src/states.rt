@@ -39,7 +39,7 @@ impl ReplayedStates {
     ///
     /// # Errors
     ///
-    /// `AllocError` if there is no memory for them.
+    /// `AllocError` if there is no memory for the states.
     pub fn new(alloc: Global) -> Result<ReplayedStates, AllocError>
         ensures { IfOk result (λ states. states ≡ first_states) }
     {
@@ -50,7 +50,7 @@ impl ReplayedStates {
         Ok(ReplayedStates { all, current: 0 })
     }
 
-    /// Changes the states as this event does.
+    /// Changes the states as the definition says for a single event (a wipe, or another current state).
     pub fn turn(&mut self, event: &Event)
         requires { StateInRange event.now }
         ensures { self.new ≡ states_after event.now self.old }

@@ -25,7 +25,7 @@ pub struct Asked {
     pub flags: u32,
 }
 
-// What the acts inside a `vread` do to its state.
+// How the acts inside a `vread` change the `vread`'s state.
 fn inside_of(acts: &[ActLine<'_>]) -> Inside
     ensures { result ≡ inside_of (map seen_act acts.now) }
 {
@@ -73,11 +73,11 @@ impl<N: Note> CallerWalk<'_, N> {
     }
 
     /// Handles a `vread`. Returns whether the steps of the `vread`, and of the acts inside it, are the steps of one
-    /// call.
+    /// vgetrandom call.
     ///
     /// # Errors
     ///
-    /// `AllocError` if there is no memory for it.
+    /// `AllocError` if there is no memory for the steps or the notes.
     pub fn vread(
         &mut self,
         set: &LineSetting,

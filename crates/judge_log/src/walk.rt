@@ -5,8 +5,8 @@ use crate::notes::Notes;
 use crate::said::Note;
 use crate::states::ReplayedStates;
 
-/// The state of the walk over a caller's calls: the replayed lists, the caller's vgetrandom states, memory for the
-/// steps of a line, and the notes of the caller's lines.
+/// How far the code is with a caller's calls: the replayed lists, the caller's vgetrandom states, memory for the steps
+/// of a line, and the notes of the caller's lines.
 #[derive(Drop)]
 pub struct CallerWalk<'a, N: Note> {
     pub lists: &'a Lists,

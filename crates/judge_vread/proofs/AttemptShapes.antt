@@ -1,5 +1,5 @@
--- An attempt of the definitions has one of a few shapes: a list of effects, with a result. For the seen steps of each
--- shape the code computes the same result.
+-- An attempt (one try of a vgetrandom call, by the definitions) has one of a few shapes: a list of effects, with a
+-- result. From the seen steps of each shape the code computes the same result.
 use Rattle.std.proofs.Common.{◌≡◌, ℕ, zero, suc, ◌<◌, ◌≤◌, ◌^◌, Bool, true, false, List, [], ◌∷◌, ◌++◌, Some, None, ◌⊎◌, inl, inr, refl, sym, subst, ap, ◌∙◌, append_assoc, arith}
 use Rattle.std.specs.Prelude.{◌==◌, ◌&&◌, not, ⊤, MatchBool, Option, if◌then◌else◌}
 use Rattle.key_names.specs.declared.point.Point.TheVariants.{Start, Written, Serve, End}
@@ -31,7 +31,8 @@ use Rattle.judge_vread.specs.Path.{published, After, looked_again, key_in_front,
 use Rattle.judge_vread.proofs.SeenShapes.{SeenLook, look_seen, cpu_seen, base_seen, see_at}
 use Rattle.judge_vread.proofs.CalledSays.{answered}
 
--- from a look that a transcript can have, the code computes the published generation of the definitions
+-- if a look found a generation `g` from 1 to 2^63 - 1, the code computes the published generation of the definitions
+-- from `g`
 pub published_is : (g : ℕ) → 1 ≤ g → g < 2 ^ 63 → published_by g ≡ published g
 published_is zero some small = absurd (omega arith)
 published_is (suc g) some small = omega arith
@@ -40,7 +41,7 @@ pub published_some : (g : ℕ) → 1 ≤ g → (published_by g == 0) ≡ false
 published_some zero some = absurd (omega arith)
 published_some (suc g) some = not_zero (suc (suc g)) (omega arith)
 
--- each look found the core ready, at a generation that a transcript can have
+-- each look in the list found the core ready, at a generation below 2^63
 abbrev pub Known : List Effect → Type 0
 Known [] = ⊤
 Known (looked g ∷ ds) = (1 ≤ g) × (g < 2 ^ 63) × Known ds
@@ -52,28 +53,29 @@ Known (nothing_there ∷ ds) = Known ds
 pub known_at : {ds xs : List Effect} → ds ≡ xs → Known ds → Known xs
 known_at {ds = ds} {xs = xs} p h = let P : List Effect → Type 0 = λ x. Known x in subst P p h
 
--- the points of an attempt: `points`, with Written before them if the attempt read a key
+-- the points that an attempt reached: `points`, and Written before them if the attempt read a key (the first bool)
 abbrev pub with_written : Bool → Bool → List PointReached → List PointReached
 with_written true wiped points = reached Written wiped ∷ points
 with_written false wiped points = points
 
--- the effect of acts on a state; each of the last four bools is true if an act wipes the state at that point
+-- what the acts inside a vgetrandom call do to its state: each of the last four bools is true if an act wipes the state
+-- at that point
 abbrev pub wiping : Bool → Bool → Bool → Bool → Bool → Inside
 wiping any w1 w2 w3 w4 = record { any = any; start = w1; written = w2; serve = w3; end = w4 }
 
--- the followed attempt `b` has the same result as `a`, an attempt of the definitions
+-- the result `b` that the code computes for an attempt equals the result of `a`, an attempt of the definitions
 pub record Matches (a : Attempt) (b : After) : Type 0 where
   pub out : a.out ≡ bytes_made b.tried.served
   pub state : a.state ≡ b.state
   pub next_block : a.next_block ≡ b.tried.next_block
   pub end : a.end ≡ (if b.tried.holds then holds else outdated)
 
--- if `b` matches an attempt a', then `b` matches each attempt that equals a'
+-- if `b` matches an attempt a', and `a` equals a', then `b` matches `a`
 pub matches_at : (a a' : Attempt) (b : After) → a ≡ a' → Matches a' b → Matches a b
 matches_at a a' b is m = let P : Attempt → Type 0 = λ x. Matches x b in subst P (sym is) m
 
 module _ (set : Setting) (more : List HostStep) where
-  -- ---- an attempt from its point Serve on
+  -- ---- the part of an attempt from its point Serve on
 
   pub record Copied (n c : ℕ) (s : VgetrandomState) (steps : List HostStep) (ds : List Effect) (a : Attempt) : Type 0 where
     pub w3 : Bool
@@ -111,9 +113,9 @@ module _ (set : Setting) (more : List HostStep) where
         points = ap (λ x. points_of (x ++ more)) all;
       }
 
-  -- ---- a system call for a key
+  -- ---- the system call by which an attempt reads a key
 
-  -- a system call for a key has two looks, then at most one visit of the base, and then a visit of a CPU
+  -- a system call for a key has two looks, then at most one visit of the base, and then a visit of the caller's CPU
   record KeyRead (seen : List SeenStep) (rest : List Effect) (answer : SystemAnswer) : Type 0 where
     key : List ℕ
     visit : Option CpuPlace
@@ -195,7 +197,7 @@ module _ (set : Setting) (more : List HostStep) where
         go (inl f) = (let none : g ≡ 0 = f.0 in absurd (omega (arith, some)))
         go (inr f) = key_by g r is f
 
-  -- ---- an attempt
+  -- ---- a whole attempt
 
   pub record InferredAs (o : Option After) (a : Attempt) (keyed : Bool) (following : List SeenStep) : Type 0 where
     pub b : After
@@ -223,7 +225,7 @@ module _ (set : Setting) (more : List HostStep) where
     pub inferred : (any w : Bool) → (keyed ≡ true → w ≡ w2) →
         InferredAs (attempted (wiping any w1 w w3 w4) n c s seen) a keyed following
 
-  -- a copy that is followed has the same result as the copy in the definitions
+  -- the copy that the code follows has the same result as the copy of the definitions
   copy_matches : (n c h : ℕ) (w3 w4 keyed : Bool) (s : VgetrandomState) (following : List SeenStep) → 1 ≤ h → h < 2 ^ 63 →
       Matches (copy_attempt n c (published_by h) w3 w4 s)
       (looked_again n c keyed (state_left w3 s) (state_left w4 (state_after_copy (state_left w3 s) c n)) h following)

@@ -1,4 +1,5 @@
--- If steps can be followed as an attempt, the steps are an attempt of the definitions.
+-- If the code can follow steps as an attempt (one try of a vgetrandom call), the steps are an attempt of the
+-- definitions.
 use Rattle.std.proofs.Common.{◌≡◌, ℕ, ◌<◌, ◌≤◌, ◌^◌, Bool, true, false, List, [], ◌∷◌, ◌++◌, Some, refl, sym, subst, ap, ◌∙◌}
 use Rattle.std.specs.Prelude.{◌==◌, if◌then◌else◌}
 use Rattle.std.specs.List.{AllByRecursion}
@@ -34,7 +35,7 @@ use Rattle.judge_vread.proofs.CalledRows.{called_row}
 use Rattle.judge_vread.proofs.CalledSays.{called_says}
 use Rattle.judge_vread.proofs.AttemptShapes.{published_is, with_written, Matches}
 
--- if a system call is recognized, the kinds of its steps are one of the rows of a system call
+-- if the code recognizes steps as a system call, the list of their kinds is a row of a system call
 pub row_of_called : (set : Setting) (n flags : ℕ) (seen : List SeenStep) (s : Shape set.cpu seen) (c : SystemCallResult) →
     called n flags seen ≡ Some c → IsSystemCall n flags (kinds_of set.cpu (effects_in set.cpu seen s))
 row_of_called set n flags seen s c e =
@@ -66,7 +67,7 @@ module _ (cf : LaneFacts) (set : Setting) (n : ℕ) (first : Sign) where
   found_at inside c s effects {b = b} {b' = b'} e found =
       let is : b ≡ b' = cc in let P : After → Type 0 = λ x. Found inside c s effects x in subst P is found
 
-  -- the steps `call`, which come before a look, are a system call that reads this key
+  -- the steps `call`, which come before a look, are a system call that reads the key `key`
   record KeyCall (call : List Effect) (key : List ℕ) : Type 0 where
     form : SysForm set 32 0 call
     answer : read (keystream key 32 32) (last_place call) ≡ answer_after 0 call

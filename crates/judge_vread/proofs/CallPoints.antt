@@ -1,5 +1,5 @@
--- The code and the definitions agree on the points that a call reached, and on the wipes that acts make at these
--- points.
+-- The code and the definitions agree on the points that a vgetrandom call reached, and on the wipes that acts make at
+-- these points.
 use Rattle.std.proofs.Common.{◌≡◌, ◌⊎◌, inl, inr, Bool, true, false, List, [], ◌∷◌, refl, sym, subst, ap, ◌∙◌}
 use Rattle.std.specs.Prelude.{not, MatchBool}
 use Rattle.std.specs.List.{AllByRecursion}
@@ -15,7 +15,8 @@ use Rattle.judge_vread.specs.Inside.{inside_of, includes, reached_by}
 use Rattle.key_names.proofs.Unique.UniqueTries.{reached}
 use Rattle.judge_vread.proofs.AttemptShapes.{with_written}
 
--- the points of an attempt with these wipes, followed by the points `ps`
+-- the points of an attempt, followed by the points `ps`; `w1` to `w4` are true if the state is wiped at Start, Written,
+-- Serve and End
 abbrev pub attempt_points : Bool → Bool → Bool → Bool → Bool → List PointReached → List PointReached
 attempt_points keyed w1 w2 w3 w4 ps =
     reached Start w1 ∷ with_written keyed w2 (reached Serve w3 ∷ reached End w4 ∷ ps)
@@ -36,7 +37,7 @@ EndPoints ps = (ps ≡ []) ⊎ Second ps
 abbrev pub Unwiped : List PointReached → Type 0
 Unwiped ps = (ps ≡ []) ⊎ ((keyed : Bool) × (ps ≡ attempt_points keyed false false false false []))
 
--- ---- from the points that the code followed to `WipesConform`
+-- ---- if the code followed a call, the wipes conform (`WipesConform`)
 
 pub none_conform : (acts : List BoundAct) (ps : List PointReached) → ps ≡ [] → WipesConform acts ps
 none_conform acts ps is =
@@ -78,7 +79,7 @@ wipes_conform acts keyed all ps is following =
         let P : List PointReached → Type 0 = λ x. WipesConform acts (attempt_points false w.start w.written w.serve w.end x) in
         subst P (sym is) (record { first = (refl, (refl, (refl, tt))); second = (refl, (refl, (refl, tt))) })
 
--- ---- which points were reached
+-- ---- which points an attempt reached
 
 pub all_included : (point : Point) → true ≡ includes All point
 all_included Start = refl
@@ -107,9 +108,10 @@ which_reached keyed w1 w2 w3 w4 all ps is following act = ap (λ x. is_reached x
     go true ps (inr second) = ap (λ x. is_reached (attempt_points true w1 w2 w3 w4 x) act) second.is
     go false ps (inr second) = ap (λ x. is_reached (attempt_points false w1 w2 w3 w4 x) act) second.is
 
--- ---- from `WipesConform` to the points that the code followed
+-- ---- if the wipes conform (`WipesConform`), they are those that the code assumes
 
--- at each point that the attempt reached, the state is wiped exactly if one of the acts wipes it there
+-- at each point that the first attempt reached, the state is wiped (`w1` to `w4`) exactly if one of `acts` wipes it
+-- there
 pub record AsInferred (acts : List BoundAct) (keyed w1 w2 w3 w4 : Bool) : Type 0 where
   pub start : w1 ≡ is_wiped acts Start
   pub written : keyed ≡ true → is_wiped acts Written ≡ w2
@@ -135,7 +137,7 @@ first_as_inferred acts keyed w1 w2 w3 w4 all ps is conform =
       end = h.first.1.1.0;
     }
 
--- the state is wiped at no point of a second attempt
+-- the second attempt does not wipe the state at any point that it reached
 pub record NotWiped (keyed w1 w2 w3 w4 : Bool) : Type 0 where
   pub start : w1 ≡ false
   pub written : keyed ≡ true → false ≡ w2
@@ -160,9 +162,10 @@ second_not_wiped acts keyed w1 w2 w3 w4 keyed' v1 v2 v3 v4 all ps more is second
     go true keyed' h = by keyed' h.second
     go false keyed' h = by keyed' h.second
 
--- ---- acts
+-- ---- the meaning of the acts inside a vread
 
--- if the tests `f` and `g` agree on each act, the meaning of the acts by `f` is also their meaning by `g`
+-- if the tests `f` and `g` (whether an act is done) agree on each act, the meaning of the acts by `f` is also their
+-- meaning by `g`
 pub acts_by : (set : Setting) (f g : BoundAct → Bool) → ((act : BoundAct) → f act ≡ g act) →
     (acts : List BoundAct) (ms : List LineMeaning) → ActsMean set f acts ms → ActsMean set g acts ms
 acts_by set f g same [] [] h = tt

@@ -1,4 +1,4 @@
--- Seen steps are recognized as a system call exactly if their kinds are one of the rows of a system call.
+-- The code recognizes seen steps as a system call exactly if the list of their kinds is a row of a system call.
 use Rattle.std.proofs.Common.{◌≡◌, ℕ, Bool, true, false, ◌⊎◌, inl, inr, List, [], ◌∷◌, Option, Some, refl, subst}
 use Rattle.std.specs.Prelude.{◌==◌, ◌&&◌, ◌||◌, not, map, MatchBool, if◌then◌else◌}
 use Rattle.key_names.specs.declared.events.Answer.{Answer}
@@ -64,7 +64,8 @@ wait_row n (Base wait ∷ Base interrupt ∷ []) c e = inl refl
 wait_row n (Base wait ∷ Resumed ∷ seen) c e = inr (kinds seen, refl, on_row n seen c e)
 wait_row n _ c e = absurd cc
 
--- if the code recognizes the steps after the first look of a system call, the kinds of these steps are a row
+-- if the code recognizes the steps after the first look of a system call, the list of their kinds is a row for these
+-- steps
 after_row : (n flags : ℕ) (ready : Bool) (seen : List SeenStep) (c : SystemCallResult) → after_look n flags ready seen ≡ Some c →
     IsAfterLook n flags ready (kinds seen)
 after_row n flags ready seen c e = go ready (is_insecure flags) (is_nonblock flags) e
@@ -93,7 +94,7 @@ called_row n flags seen c e = go (is_bad flags) seen e
     go false (Ready g ∷ seen) e = inr (kinds seen, refl, after_row n flags true seen c e)
     go false _ e = absurd cc
 
--- ---- from a row to the test in the code
+-- ---- if the kinds of steps are a row of a system call, the code recognizes the steps
 
 abbrev Inferred : Option SystemCallResult → Type 0
 Inferred o = (c : SystemCallResult) × (o ≡ Some c)

@@ -1,4 +1,5 @@
--- If each visit has the inferred entry, a recognized system call has the answer and bytes of its steps.
+-- If each visit has the inferred entry, a system call that the code recognizes has the answer and bytes that its
+-- effects give.
 use Rattle.std.proofs.Common.{◌≡◌, ℕ, Bool, true, false, List, [], ◌∷◌, Option, Some, None, refl, sym, subst, ap, ◌∙◌}
 use Rattle.std.specs.Prelude.{◌==◌, ◌&&◌, ◌||◌, not, nat_lt, nat_le, if◌then◌else◌}
 use Rattle.key_names.specs.declared.entries.Taken.{Taken}
@@ -35,8 +36,8 @@ use Rattle.judge_vread.specs.Seen.{ServesBy}
 use Rattle.judge_vread.specs.Called.{serving, no_more, cpu_read, unready_read, read, waited, after_look, by_look, called}
 use Rattle.judge_vread.proofs.SeenShapes.{Shape, effects_in}
 
--- `c` has the answer and the bytes of `effects`. A line that reports what the host returned for `effects` has the same
--- answer and bytes
+-- `c` has the answer and bytes that `effects` give. A vread's line that reports this system call has the same answer
+-- and bytes
 pub record Says (flags : ℕ) (effects : List Effect) (c : SystemCallResult) : Type 0 where
   pub answer : c.answer ≡ system_answer flags effects
   pub bytes : bytes_made c.served ≡ served_bytes effects
@@ -53,7 +54,8 @@ done_says flags effects recipe is bytes =
       shown = ap bytes_or_none bytes ∙ sym (ap system_line_shown following);
     }
 
--- a system call that fails has the error as its answer, and no bytes
+-- if `effects` are a system call that fails with `answer` and serves no bytes, a result with `answer` and no bytes is
+-- right for them
 failed_says : (flags : ℕ) (effects : List Effect) (answer : Answer) (errno : Errno) → errno_of answer ≡ Some errno →
     answer_of_errno errno ≡ answer → system_answer flags effects ≡ answer → served_bytes effects ≡ [] →
     Says flags effects (record { answer = answer; served = no_recipe })
@@ -74,7 +76,7 @@ user_bytes key n = go (nat_lt 32 n)
     go true = refl
     go false = refl
 
--- a read of a CPU serves the bytes of its recipe
+-- a visit of a CPU that reads for a user serves the bytes of the recipe `user_recipe key n`
 cpu_bytes : (key : List ℕ) (n : ℕ) (e : CpuEntry) (serves : List ℕ) (look : ℕ) (refill : Option ℕ) →
     e ≡ CpuRead look refill (User n) → ServesBy key e serves → bytes_made (user_recipe key n) ≡ serves
 cpu_bytes key n e serves look refill is by =
@@ -84,8 +86,8 @@ draw_bytes : (key : List ℕ) (n : ℕ) (e : BaseEntry) (serves : List ℕ) (roo
     serves ≡ base_serves key e → bytes_made (user_recipe key n) ≡ serves
 draw_bytes key n e serves root is by = user_bytes key n ∙ sym (by ∙ ap (base_serves key) is)
 
--- if the flags are good, two tests determine the answer: `u`, whether the call fails with EAGAIN, and `w`, whether its
--- wait was interrupted
+-- if the flags are good, two tests determine the answer: `u`, whether the system call fails with EAGAIN, and `w`,
+-- whether its wait was interrupted
 pub answered : (flags : ℕ) (effects : List Effect) (u w : Bool) → is_bad flags ≡ false →
     (found_unready effects && (is_nonblock flags && not (is_insecure flags))) ≡ u → was_interrupted effects ≡ w →
     system_answer flags effects ≡ (if u then Again else (if w then Interrupted else Done))
@@ -103,7 +105,7 @@ module _ (cf : LaneFacts) (set : Setting) (sooner : Taken) (n flags : ℕ) (firs
   abbrev Fill : Sign → Sign → List Effect → Type 0
   Fill = AllFill (FillsPart cf set sooner (User n) first)
 
-  -- suppose that the first look of a call found `g`, and that the call does not fail with EAGAIN
+  -- suppose that the first look of a system call found `g`, and that the system call does not fail with EAGAIN
   module _ (g : ℕ) (on : (found_unready (looked g ∷ []) && (is_nonblock flags && not (is_insecure flags))) ≡ false) where
     goes_done : (ds : List Effect) (recipe : Recipe) → was_interrupted (looked g ∷ ds) ≡ false →
         bytes_made recipe ≡ served_bytes (looked g ∷ ds) → Says flags (looked g ∷ ds) (serving recipe)
@@ -161,7 +163,7 @@ module _ (cf : LaneFacts) (set : Setting) (sooner : Taken) (n flags : ℕ) (firs
         go true e = none_says seen s c e
         go false e = unready_says a seen s c f e
 
-    -- a call whose wait went on has the answer and bytes of its steps
+    -- a system call that waited until the core was ready has the answer and bytes that its effects give
     on_says : (a b : Sign) (wait : List ℕ) (seen : List SeenStep) (s : Shape set.cpu (Base wait ∷ Resumed ∷ seen)) (c : SystemCallResult) →
         Fill a b (effects_in set.cpu (Base wait ∷ Resumed ∷ seen) s) → read n true seen ≡ Some c →
         Says flags (looked g ∷ effects_in set.cpu (Base wait ∷ Resumed ∷ seen) s) c

@@ -1,4 +1,4 @@
--- A vgetrandom call of the definitions can be followed over its seen steps, with the same result.
+-- If steps are a vgetrandom call of the definitions, the code can follow them as this call, with the same result.
 use Rattle.std.proofs.Common.{◌≡◌, ℕ, ◌≤◌, inl, inr, Bool, true, false, List, [], ◌∷◌, ◌++◌, Some, Option, refl, sym, subst, ap, ◌∙◌, append-nil}
 use Rattle.std.specs.Prelude.{◌==◌, MatchBool, if◌then◌else◌}
 use Rattle.std.specs.Option.{option_map}
@@ -44,7 +44,8 @@ fit_after c [] rest fit = fit
 fit_after c (d ∷ front) rest fit = fit_after c front rest fit.1
 
 module _ (cf : LaneFacts) (set : Setting) (n flags : ℕ) where
-  -- the followed call has this result and this state
+  -- `o` is a result of the code: its answer and bytes are those of `ending`, its state is `state`, and its reached
+  -- points are `r`
   pub record Follows (o : Option Followed) (ending : Ending) (state : VgetrandomState) (r : Reached) : Type 0 where
     pub f : Followed
     pub is : o ≡ Some f
@@ -64,7 +65,7 @@ module _ (cf : LaneFacts) (set : Setting) (n flags : ℕ) where
     reached = k.reached;
   }
 
-  -- ---- the system call
+  -- ---- the system call that answers a vgetrandom call
 
   record SystemSeen (seen : List SeenStep) (effects : List Effect) : Type 0 where
     c : SystemCallResult
@@ -138,9 +139,9 @@ module _ (cf : LaneFacts) (set : Setting) (n flags : ℕ) where
   after_at Outdated a steps outcome {end = end} {end' = end'} is after =
       let P : AttemptEnd → Type 0 = λ x. AfterAttempt n flags Outdated x a steps outcome in subst P is after
 
-  -- ---- the second attempt
+  -- ---- the second attempt of a vgetrandom call
 
-  -- the second attempt is followed without wipes, and `ps` has its points
+  -- the code has followed the second attempt as one without wipes; `ps` has the attempt's points
   record SecondFollows (o : Option Followed) (ending : Ending) (state : VgetrandomState) (r : Reached)
       (ps : List PointReached) : Type 0 where
     follows : Follows o ending state r
@@ -229,7 +230,7 @@ module _ (cf : LaneFacts) (set : Setting) (n flags : ℕ) where
           (after_at (AfterBoth n flags) by.attempt by.rest by.outcome_after (ap (λ z. if z then holds else outdated) h) goes_on) sh.shows fit'
           sees')
 
-  -- ---- the first attempt
+  -- ---- the first attempt of a vgetrandom call
 
   record FirstFollows (o : Option Followed) (ending : Ending) (state : VgetrandomState)
       (all : List PointReached) : Type 0 where
@@ -323,7 +324,7 @@ module _ (cf : LaneFacts) (set : Setting) (n flags : ℕ) where
             which = which (inr second.points);
           }
 
-  -- ---- a whole call
+  -- ---- a whole vgetrandom call
 
   pub record CallFollows (o : Option Followed) (ending : Ending) (state : VgetrandomState)
       (all : List PointReached) : Type 0 where

@@ -1,4 +1,4 @@
--- If steps can be followed as a vgetrandom call, the steps are such a call of the definitions.
+-- If the code can follow steps as a vgetrandom call, the steps are a vgetrandom call of the definitions.
 use Rattle.std.proofs.Common.{◌≡◌, ℕ, inl, inr, Bool, true, false, List, [], ◌∷◌, ◌++◌, Some, None, Option, refl, sym, subst, ap, ◌∙◌, append-nil}
 use Rattle.std.specs.Prelude.{◌==◌, MatchBool, if◌then◌else◌}
 use Rattle.std.specs.List.{AllByRecursion}
@@ -41,7 +41,8 @@ module _ (cf : LaneFacts) (set : Setting) (n flags : ℕ) (first : Sign) where
   abbrev ds : (seen : List SeenStep) → Shape set.cpu seen → List Effect
   ds seen sh = effects_in set.cpu seen sh
 
-  -- some steps of the host lead to the followed result, and the effects show these steps
+  -- some steps of the call's host (what gives it generations and system calls) lead to the result of `f`, and `effects`
+  -- show these steps
   pub record CallInferred (Leads : List HostStep → Outcome → Type 0) (Points : List PointReached → Type 0) (r : Reached)
       (effects : List Effect) (f : Followed) : Type 0 where
     pub steps : List HostStep
@@ -63,8 +64,8 @@ module _ (cf : LaneFacts) (set : Setting) (n flags : ℕ) (first : Sign) where
   call_at {Leads = Leads} {Points = Points} {r = r} {effects = effects} {f = f} {f' = f'} e inferred =
       let is : f ≡ f' = cc in let P : Followed → Type 0 = λ x. CallInferred Leads Points r effects x in subst P is inferred
 
-  -- if the code follows steps as a call that the system answers, they are such a call; `s` and `t` are equal states of
-  -- the definitions and of the code
+  -- if the code follows steps as a vgetrandom call that a system call answers, they are such a call; `s` and `t` are
+  -- equal states of the definitions and of the code
   system_inferred : (r : Reached) (s t : VgetrandomState) → s ≡ t → (seen : List SeenStep) (sh : Shape set.cpu seen)
       (f : Followed) (x y : Sign) → F x y (ds seen sh) → leaving t (path.by_system n flags r seen) ≡ Some f →
       CallInferred (BySystem n flags s) None_ r (ds seen sh) f
@@ -113,7 +114,7 @@ module _ (cf : LaneFacts) (set : Setting) (n flags : ℕ) (first : Sign) where
   })
   batch_inferred r a recipe t out same (z ∷ seen) sh f e = absurd cc
 
-  -- an attempt was found at the start of the steps `seen`, and more steps come after the attempt
+  -- the steps `seen` begin with an attempt, whose result is `b`, and the rest of the vgetrandom call comes after it
   module _ (inside : Inside) (c : ℕ) (s : VgetrandomState) (seen : List SeenStep) (sh : Shape set.cpu seen) (b : After)
       (found : Found cf set n first inside c s (ds seen sh) b) where
     ended : (t : Bool) → b.tried.holds ≡ t → found.attempt.end ≡ (if t then holds else outdated)
@@ -180,7 +181,7 @@ module _ (cf : LaneFacts) (set : Setting) (n flags : ℕ) (first : Sign) where
               (system_inferred r (state_after_call found.attempt.state) (state_after_call b.state)
               (ap state_after_call found.matches.state) b.rest found.shape f found.x found.y found.fills e)
 
-  -- `all` has the points of the first attempt with these wipes. If there is a second attempt, its points follow,
+  -- `all` has the points of the first attempt, wiped as in `inside`. If there is a second attempt, its points follow,
   -- without wipes
   abbrev First : Inside → Bool → List PointReached → Type 0
   First inside keyed all = (ps : List PointReached)
@@ -224,7 +225,7 @@ module _ (cf : LaneFacts) (set : Setting) (n flags : ℕ) (first : Sign) where
               (second_inferred r b.tried.next_block found.attempt.state b.state found.matches.state b.rest found.shape f
               found.x found.y found.fills found.fits e))
 
-  -- ---- a whole call
+  -- ---- a whole vgetrandom call
 
   pub record Call (acts : List BoundAct) (Leads : List HostStep → Outcome → Type 0) (effects : List Effect)
       (f : Followed) : Type 0 where
@@ -293,7 +294,7 @@ module _ (cf : LaneFacts) (set : Setting) (n flags : ℕ) (first : Sign) where
         (MatchBool s.in_use (BySystem n flags s steps outcome)
         (FirstAttempt n flags (record s { in_use = true }) steps outcome))
 
-    -- if the relation L between steps and outcome implies the relation M, then a call by L is a call by M
+    -- let the relation `L` between host steps and outcome imply `M`. If `f` is a call by `L`, it is a call by `M`
     turned : {L M : List HostStep → Outcome → Type 0} {effects : List Effect} {f : Followed} →
         ((steps : List HostStep) (outcome : Outcome) → L steps outcome → M steps outcome) → Call acts L effects f →
         Call acts M effects f

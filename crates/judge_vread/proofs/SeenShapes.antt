@@ -1,4 +1,5 @@
--- Seen steps are turned into looks and visits, and back.
+-- Seen steps (kinds, found generations and keys) are turned into looks and visits, and looks and visits into seen
+-- steps.
 use Rattle.std.proofs.Common.{◌≡◌, ℕ, ◌≤◌, true, false, List, [], ◌∷◌, refl, sym, subst, ap, arith}
 use Rattle.std.specs.Prelude.{◌==◌, ⊤, map}
 use Rattle.std.proofs.lemmas.Bool.Decides.{nat_tests}
@@ -29,7 +30,7 @@ module _ (cpu : ℕ) where
     pub on : v.cpu ≡ cpu
     pub serves : ServesBy key v.entry v.serves
 
-  -- the shape of a seen step: the look or visit that it shows
+  -- the shape of a seen step: what determines the look or visit that it shows
   abbrev pub One : SeenStep → Type 0
   One Unready = ⊤
   One (Ready g) = 1 ≤ g
@@ -96,7 +97,7 @@ module _ (cpu : ℕ) where
   kinds_seen (x ∷ xs) [] h = absurd h
   kinds_seen (x ∷ xs) (d ∷ ds) h = let p = kind_seen x d h.0 in let q = kinds_seen xs ds h.1 in cc
 
-  -- a seen step shows the look or visit in the step's shape
+  -- a seen step shows the look or visit that its shape determines
   one_seen : (x : SeenStep) (p : One x) → IsSeen cpu x (effect x p)
   one_seen Unready p = refl
   one_seen (Ready g) p = (refl, p)
@@ -110,7 +111,7 @@ module _ (cpu : ℕ) where
   shape_seen [] s = tt
   shape_seen (x ∷ xs) s = (one_seen x s.0, shape_seen xs s.1)
 
-  -- ---- from a look or visit to its seen step
+  -- ---- the seen step of a look or visit
 
   pub record SeenLook (g : ℕ) (seen : List SeenStep) (rest : List Effect) : Type 0 where
     pub following : List SeenStep

@@ -14,14 +14,14 @@ length_made front key k from len within =
     ∙ ap (λ n. length (take k front) + n) (sym (length-keystream key from len))
     ∙ sym (length-append (take k front) (keystream key from len))
 
--- if the two lengths of a recipe add up to fewer than 2^32, the recipe makes fewer than 2^32 bytes
+-- if the lengths of a recipe's two parts add up to fewer than 2^32, the recipe makes fewer than 2^32 bytes
 pub few_made : (front key : List ℕ) (k from len : ℕ) (r : Recipe) → k ≤ length front → k + len < 2 ^ 32 →
     record { front = take k front; key = key; from = from; len = len } ≡ r → length (bytes_made r) < 2 ^ 32
 few_made front key k from len r within few is =
     subst (λ n. n < 2 ^ 32) (length_made front key k from len within ∙ ap (λ r. length (bytes_made r)) is) few
 
--- if the stream's first `done` bytes are appended and then its next `next` bytes, its first `done + next` bytes are
--- appended
+-- let `items` be `old` with the stream's first `done` bytes appended. With its next `next` bytes appended, `old` has
+-- its first `done + next` bytes appended
 pub put_more : (old items more part key : List ℕ) (from done next : ℕ) → items ≡ old ++ keystream key from done →
     part ≡ keystream key (from + done) next → more ≡ items ++ part → more ≡ old ++ keystream key from (done + next)
 put_more old items more part key from done next were is made =
@@ -33,7 +33,7 @@ pub on_err : {T E : Type 0} (result : Result T E) (P : Type 0) → P → OnErr r
 on_err (Ok value) P p = tt
 on_err (Err error) P p = p
 
--- if a failed put appended `front` and a prefix of `made`, the put appended a prefix of front ++ made
+-- let a put append `front`, and then fail after a prefix of `made`. Then it has appended a prefix of front ++ made
 pub put_some : {T E : Type 0} (result : Result T E) (old mid items front made : List ℕ) → mid ≡ old ++ front →
     OnErr result ((n : ℕ) × (items ≡ mid ++ take n made)) →
     OnErr result ((n : ℕ) × (items ≡ old ++ take n (front ++ made)))
@@ -51,7 +51,8 @@ same_more bytes key from done next were is =
     ∙ ap (λ x. keystream key from done ++ x) is
     ∙ keystream-append key from done (from + done) next (done + next) refl (λ some. refl)
 
--- if all bytes equal the stream, each piece of the bytes equals its piece of the stream
+-- if all of `bytes` equals the key's stream from `from` on, each piece of `bytes` equals the stream's piece at the same
+-- offset
 pub piece_same : (bytes key : List ℕ) (from done next : ℕ) → done + next ≤ length bytes →
     bytes ≡ keystream key from (length bytes) → take next (drop done bytes) ≡ keystream key (from + done) next
 piece_same bytes key from done next within is =

@@ -1,4 +1,5 @@
--- If all entries of a vread fit, each visit has the entry that is inferred from the steps around it.
+-- If all entries of a vread fit (its lanes allow them), each visit has the entry that is inferred from the steps around
+-- it.
 use Rattle.std.proofs.Common.{◌≡◌, ℕ, ◌⊎◌, inl, inr, Bool, true, false, List, [], ◌∷◌, ◌++◌, refl, sym, subst, ap, ◌∙◌, append-nil}
 use Rattle.std.specs.Prelude.{◌==◌, ◌&&◌, not, MatchBool}
 use Rattle.key_names.specs.declared.entries.Taken.TheVariants.{User}
@@ -29,7 +30,7 @@ fit_front : (c : LaneFacts) (front rest : List Effect) → AllFit c (front ++ re
 fit_front c [] rest fit = tt
 fit_front c (d ∷ front) rest fit = (fit.0, fit_front c front rest fit.1)
 
--- ---- each step of a system call is a look, or a visit that the lists have
+-- ---- each step of a system call is a look, or a visit that is in the lists
 
 cpu_there : (set : Setting) (n : ℕ) (ds : List Effect) → CpuReadForm set (User n) ds → AllThere ds
 cpu_there set n ds (inl f) = there_at f.effects_are (tt, (tt, tt))
@@ -72,7 +73,7 @@ system_there set n flags ds form = go (is_bad flags) form
     go true none = there_at none tt
     go false (g, r, is, form) = there_at is (tt, looked_there set n flags g r form)
 
--- ---- a call
+-- ---- a vgetrandom call
 
 module _ (cf : LaneFacts) (set : Setting) (n flags : ℕ) (first : Sign) where
   abbrev Fill : Sign → Sign → List Effect → Type 0
@@ -87,7 +88,7 @@ module _ (cf : LaneFacts) (set : Setting) (n flags : ℕ) (first : Sign) where
   shows_at : {steps xs : List HostStep} (ds : List Effect) → steps ≡ xs → Shows set steps ds → Shows set xs ds
   shows_at {steps = steps} {xs = xs} ds p h = let P : List HostStep → Type 0 = λ x. Shows set x ds in subst P p h
 
-  -- each visit has the inferred entry, whatever steps come before
+  -- each visit in `ds` has the inferred entry, whatever steps come before `ds`
   abbrev Filled : List Effect → Type 0
   Filled ds = (x y : Sign) → Fill x y ds
 
@@ -112,7 +113,7 @@ module _ (cf : LaneFacts) (set : Setting) (n flags : ℕ) (first : Sign) where
       let P : Bool → Type 0 = λ b. MatchBool b (ds ≡ []) (After set n flags ds) in
       let f = subst P good (whole s steps outcome ds by shows) in (f.0, f.1, f.2)
 
-  -- an attempt is followed by more steps of the host, whose visits have the inferred entries
+  -- suppose that after an attempt the host makes the steps `more`, whose visits have the inferred entries
   module _ (more : List HostStep) (after : (rest : List Effect) → Shows set more rest → AllFit cf rest → Filled rest) where
     served : (c : ℕ) (s : VgetrandomState) (steps : List HostStep) (ds : List Effect) (a : Attempt) →
         AtPoint Serve (FromServe n c) s steps a → Shows set (steps ++ more) ds → AllFit cf ds → Starts ds × Filled ds
@@ -173,7 +174,7 @@ module _ (cf : LaneFacts) (set : Setting) (n flags : ℕ) (first : Sign) where
             (λ e. starts (ap (λ (w : Attempt). w.end) (st.attempt_is
             ∙ ap (prefix_attempt (wipe_entry st.wiped)) k.attempt_is) ∙ e))
 
-  -- the visits of an attempt and of the steps after it have the inferred entries
+  -- all visits of an attempt, and of the steps after it, have the inferred entries
   tried_filled : is_bad flags ≡ false → (Outdated : ℕ → VgetrandomState → List HostStep → Outcome → Type 0) →
       ((c : ℕ) (s : VgetrandomState) (steps : List HostStep) (outcome : Outcome) (ds : List Effect) →
       Outdated c s steps outcome → Shows set steps ds → AllFit cf ds → Filled ds) →

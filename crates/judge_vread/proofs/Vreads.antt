@@ -1,4 +1,4 @@
--- Steps can be followed as a vread exactly if the steps are a vread of the definitions.
+-- The code can follow steps as a vread exactly if the steps are a vread of the definitions.
 use Rattle.std.proofs.Common.{◌≡◌, ℕ, suc, ◌≤◌, Bool, true, false, List, [], ◌∷◌, ◌++◌, length, Some, None, Option, refl, sym, subst, ap, ◌∙◌, arith}
 use Rattle.std.specs.Prelude.{◌==◌, ◌&&◌, ◌||◌, not, nat_le, MatchBool, if◌then◌else◌}
 use Rattle.std.specs.List.{AllByRecursion, list_any}
@@ -40,7 +40,7 @@ use Rattle.judge_vread.proofs.CallPoints.{acts_by}
 use Rattle.judge_vread.proofs.CallsInferred.{Call, vgetrandom_inferred}
 use Rattle.judge_vread.proofs.CallsFollowed.{vgetrandom_followed}
 
--- ---- looks
+-- ---- the looks of a vread never fall
 
 true_both : (a b : Bool) → a ≡ true → b ≡ true → (a && b) ≡ true
 true_both a b p q = ap (λ x. x && b) p ∙ q
@@ -54,7 +54,7 @@ le_is a b e = grind (arith, nat_tests)
 zero_of : (a : ℕ) → (a == 0) ≡ true → a ≡ 0
 zero_of a e = grind (arith, nat_tests)
 
--- the looks never fall, and the first look is not below `last`
+-- the generations in `looks` never fall, and the first of them is not below `last`
 abbrev From : ℕ → List ℕ → Type 0
 From last looks = NeverFall (last ∷ looks)
 
@@ -114,7 +114,7 @@ known_from cpu last some (Elsewhere ∷ seen) (((at_cpu v), p), s) h fits = know
 known_from cpu last some (Elsewhere ∷ seen) ((nothing_there, p), s) h fits = known_from cpu last some seen s h fits.1
 known_from cpu last some (Elsewhere ∷ seen) ((d, p), s) h fits = absurd p
 
--- ---- steps that are followed are a vread
+-- ---- if the code can follow steps as a vread, they are a vread
 
 refused : (b : Bool) (o : Option Followed) (f : Followed) → b ≡ false → (if b then o else None) ≡ Some f → ⊥
 refused true o f p e = cc
@@ -170,8 +170,8 @@ module _ (cf : LaneFacts) (n flags : ℕ) (acts : List BoundAct) (before : Calle
   AttemptResult effects f = (entries : List VEntry)
       × Looked (LocalOrCall n flags acts (meaning_of before effects ms entries f)) effects
 
-  -- if the first look found a generation at which the state allows no copy without a call, the followed steps are a
-  -- call
+  -- let the first look find a generation at which the state allows no copy without a vgetrandom call. Then the followed
+  -- steps are a vgetrandom call
   not_local : (g : ℕ) (rest : List Effect) (f : Followed) → serves_locally (published_by g) s n ≡ false →
       Is (looked g ∷ rest) f → AttemptResult (looked g ∷ rest) f
   not_local g rest f other k =
@@ -292,7 +292,7 @@ vread_of_followed cf n flags acts before effects seen f ms sees fits fill e insi
         )
     go false r e = absurd cc
 
--- ---- a vread can be followed
+-- ---- if steps are a vread, the code can follow them
 
 module _ (cf : LaneFacts) (n flags : ℕ) (acts : List BoundAct) (m : CallMeaning) (looks : NeverFall (looks_of m.own.effects))
     (fit : AllFit cf m.own.effects) where
@@ -406,7 +406,7 @@ followed_of_vread cf n flags acts m seen v sees fits fit =
     by_ways cf n flags acts m v.looks fit seen sees fits (looks_rise m.before.setting.cpu 0 seen w.0
     (from_zero (looks_of (effects_in m.before.setting.cpu seen w.0)) (subst P w.1 v.looks))) v.done_by
 
--- ---- laws about system calls and about acts
+-- ---- the laws about system calls, and about acts inside a vread
 
 pub call_says : CalledSays
 call_says c set n flags effects seen inferred sees fill e =
@@ -416,7 +416,7 @@ call_says c set n flags effects seen inferred sees fill e =
     let k = called_says c set (User n) n flags (first_sign effects) nowhere nowhere seen w.0 inferred (subst F w.1 fill) e in
     subst P (sym w.1) (k.answer, k.bytes)
 
--- If an act is appended to a list of acts, the effect of the longer list is `inside_after` of the list's effect.
+-- if an act is appended to a list of acts, `inside_after` of the list's `Inside` is the `Inside` of the longer list
 or_false : (b : Bool) → (b || false) ≡ (false || b)
 or_false true = refl
 or_false false = refl

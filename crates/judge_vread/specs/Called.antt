@@ -1,4 +1,5 @@
--- Recognizes a system call by its seen steps. The cases are the same as in the code, and as in the rows of kinds.
+-- Recognizes a system call by its seen steps (kinds, found generations and keys). The cases are the same as in the
+-- code, and as in the rows of kinds.
 use Rattle.std.specs.Prelude.{ℕ, ◌==◌, ◌||◌, Bool, true, false, Option, Some, None, List, [], ◌∷◌, if◌then◌else◌}
 use Rattle.key_names.specs.declared.events.Answer.{Answer}
 use Rattle.key_names.specs.declared.events.Answer.TheVariants.{Ok as Done, Again, Invalid, Interrupted}
@@ -11,35 +12,36 @@ use Rattle.judge_vread.specs.Recipe.{Recipe, no_recipe, user_recipe}
 abbrev pub serving : Recipe → SystemCallResult
 serving recipe = record { answer = Done; served = recipe }
 
--- the answer, without bytes, if no steps are left; otherwise no result
+-- if no steps are left, the result has `answer` and no bytes; otherwise there is no result
 abbrev pub no_more : Answer → List SeenStep → Option SystemCallResult
 no_more answer [] = Some (record { answer = answer; served = no_recipe })
 no_more answer _ = None
 
--- a read of n bytes from a CPU
+-- the result of a read of `n` bytes from a CPU; none if the steps are not those of such a read
 abbrev pub cpu_read : ℕ → List SeenStep → Option SystemCallResult
 cpu_read n (Ready a ∷ Cpu key ∷ []) = Some (serving (user_recipe key n))
 cpu_read n (Ready a ∷ Base other ∷ Cpu key ∷ []) = Some (serving (user_recipe key n))
 cpu_read n _ = None
 
--- a read of n bytes from a CPU, or from the base of a core that is not ready
+-- the result of a read of `n` bytes from a CPU, or from the base of a core that is not ready; none for other steps
 abbrev pub unready_read : ℕ → List SeenStep → Option SystemCallResult
 unready_read n (Base key ∷ []) = Some (serving (user_recipe key n))
 unready_read n (Pool ∷ Base key ∷ []) = Some (serving (user_recipe key n))
 unready_read n seen = cpu_read n seen
 
--- the steps of a read after its first look
+-- the result of a read of `n` bytes, from the steps after its first look; the bool is true if the core is ready
 abbrev pub read : ℕ → Bool → List SeenStep → Option SystemCallResult
 read n true seen = if n == 0 then no_more Done seen else cpu_read n seen
 read n false seen = if n == 0 then no_more Done seen else unready_read n seen
 
--- a wait that was interrupted, or that went on
+-- the result of a system call that waited, from the steps of its wait on; the wait was interrupted, or the core became
+-- ready
 abbrev pub waited : ℕ → List SeenStep → Option SystemCallResult
 waited n (Base wait ∷ Base interrupt ∷ []) = Some (record { answer = Interrupted; served = no_recipe })
 waited n (Base wait ∷ Resumed ∷ seen) = read n true seen
 waited n _ = None
 
--- the steps of a system call after its first look
+-- the result of a system call, from the steps after its first look; `ready` is true if this look found the core ready
 abbrev pub after_look : ℕ → ℕ → Bool → List SeenStep → Option SystemCallResult
 after_look n flags ready seen =
     if ready || is_insecure flags then read n ready seen

@@ -1,4 +1,4 @@
--- What the acts inside a call do to the call's state, and which points the first attempt reached.
+-- What the acts inside a vgetrandom call do to the call's state, and which points the first attempt reached.
 use Rattle.std.specs.Prelude.{◌==◌, not, Bool, true, false, List, [], ◌∷◌, length}
 use Rattle.std.specs.List.{list_any}
 use Rattle.key_names.specs.declared.point.Point.{Point}
@@ -10,7 +10,7 @@ use Rattle.judge_vread.specs.declared.inside.Inside.{Inside}
 use Rattle.judge_vread.specs.declared.inside.Reached.{Reached}
 use Rattle.judge_vread.specs.declared.inside.Reached.TheVariants.{Nothing, AllButWritten, All}
 
--- the effect of these acts on the state
+-- what these acts do to the state: whether there are any, and at which points of the first attempt one of them wipes it
 abbrev pub inside_of : List BoundAct → Inside
 inside_of acts = record {
   any = not (length acts == 0);
@@ -25,11 +25,11 @@ points_in Nothing = []
 points_in AllButWritten = Start ∷ Serve ∷ End ∷ []
 points_in All = Start ∷ Written ∷ Serve ∷ End ∷ []
 
--- whether the first attempt reached this point
+-- whether the first attempt reached the point
 abbrev pub includes : Reached → Point → Bool
 includes reached point = list_any (λ p. is_same_point p point) (points_in reached)
 
--- the points that an attempt reached; Written is one of them only if the attempt read a key
+-- the points that an attempt reached; the bool is true if it read a key, and only then is Written one of them
 abbrev pub reached_by : Bool → Reached
 reached_by true = All
 reached_by false = AllButWritten

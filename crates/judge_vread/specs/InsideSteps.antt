@@ -1,4 +1,4 @@
--- The effect of one more act inside a call.
+-- What the acts inside a vgetrandom call do to its state, after one more act.
 use Rattle.std.specs.Prelude.{◌&&◌, ◌||◌, true}
 use Rattle.key_names.specs.declared.point.Point.{Point}
 use Rattle.key_names.specs.declared.point.Point.TheVariants.{Start, Written, Serve, End}

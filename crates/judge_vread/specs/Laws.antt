@@ -1,4 +1,4 @@
--- The laws of following a vread. The functions of src/laws.rt state each as a contract.
+-- The laws about following a vread over its steps. Each function of src/laws.rt states one of them as its contract.
 use Rattle.std.specs.Prelude.{ℕ, ◌≡◌, Some, List, [], ◌∷◌, ◌++◌, map}
 use Rattle.std.specs.List.{AllByRecursion}
 use Rattle.key_names.specs.declared.entries.Taken.TheVariants.{User}
@@ -21,17 +21,17 @@ use Rattle.judge_vread.specs.InsideSteps.{inside_after}
 use Rattle.judge_vread.specs.Called.{called}
 use Rattle.judge_vread.specs.Path.{Followed, followed}
 
--- each visit of a vread of n bytes has the inferred entry. The line's last step is inferred as part of a read of n
+-- each visit of a vread of `n` bytes has the inferred entry. The line's last step is inferred as part of a read of `n`
 -- bytes, and each earlier step as part of a read of 32 bytes for a key
 abbrev pub VreadFills : LaneFacts → Setting → ℕ → List Effect → Type 0
 VreadFills c set n effects = AllFill (FillsPart c set (User 32) (User n) (first_sign effects)) nowhere nowhere effects
 
--- if all entries fit, the visits of a vread have the inferred entries
+-- if all entries of a vread fit (its lanes allow them), its visits have the inferred entries
 abbrev pub VreadIsInferred : Type 0
 VreadIsInferred = (c : LaneFacts) (n flags : ℕ) (acts : List BoundAct) (m : CallMeaning) → VreadMeans n flags acts m →
     AllFit c m.own.effects → VreadFills c m.before.setting n m.own.effects
 
--- the meaning of a vread, from the result f of following it
+-- the meaning of a vread, made from the result `f` of following it
 abbrev pub meaning_of : CallerState → List Effect → List LineMeaning → List VEntry → Followed → CallMeaning
 meaning_of before effects acts entries f = record {
   own = record {
@@ -45,8 +45,8 @@ meaning_of before effects acts entries f = record {
   after = with_state before f.state;
 }
 
--- if each visit has the inferred entry and the steps can be followed, the steps are a vread that leaves some entries in
--- its state's list
+-- if each visit has the inferred entry, and the steps `seen` can be followed with the result `f`, they are a vread with
+-- the meaning made from `f` and some entries of its state's list
 abbrev pub FollowedIsVread : Type 0
 FollowedIsVread = (c : LaneFacts) (n flags : ℕ) (acts : List BoundAct) (before : CallerState) (effects : List Effect)
     (seen : List SeenStep) (f : Followed) (ms : List LineMeaning) → AllSeen before.setting.cpu seen effects →
@@ -55,7 +55,7 @@ FollowedIsVread = (c : LaneFacts) (n flags : ℕ) (acts : List BoundAct) (before
     ActsMean before.setting (λ act. includes f.path.reached act.point) acts ms →
     (entries : List VEntry) × VreadMeans n flags acts (meaning_of before effects ms entries f)
 
--- the vread can be followed, and the result has the answer, bytes and state of its meaning
+-- the vread can be followed over `seen`, and the result has the answer, bytes and state of its meaning `m`
 pub record IsFollowed (n flags : ℕ) (acts : List BoundAct) (m : CallMeaning) (seen : List SeenStep) : Type 0 where
   pub f : Followed
   pub is : followed n flags (inside_of acts) (current_state m.before) seen ≡ Some f
@@ -69,7 +69,7 @@ VreadIsFollowed = (c : LaneFacts) (n flags : ℕ) (acts : List BoundAct) (m : Ca
     VreadMeans n flags acts m → AllSeen m.before.setting.cpu seen m.own.effects → AllByRecursion LookFits seen →
     AllFit c m.own.effects → IsFollowed n flags acts m seen
 
--- a system call is recognized only if the kinds of its steps are one of the rows of a system call
+-- if the code recognizes `seen` as a system call, the list of their kinds is a row of a system call
 abbrev pub CalledIsRow : Type 0
 CalledIsRow = (n flags : ℕ) (seen : List SeenStep) (c : SystemCallResult) → called n flags seen ≡ Some c →
     IsSystemCall n flags (map seen_kind seen)
@@ -78,14 +78,15 @@ abbrev pub RowIsCalled : Type 0
 RowIsCalled = (n flags : ℕ) (seen : List SeenStep) → IsSystemCall n flags (map seen_kind seen) →
     (c : SystemCallResult) × (called n flags seen ≡ Some c)
 
--- if each visit has the inferred entry, a recognized call has the answer and bytes of its steps
+-- if each visit has the inferred entry, a system call that the code recognizes has the answer and bytes that its
+-- effects give
 abbrev pub CalledSays : Type 0
 CalledSays = (c : LaneFacts) (set : Setting) (n flags : ℕ) (effects : List Effect) (seen : List SeenStep) (inferred : SystemCallResult) →
     AllSeen set.cpu seen effects → AllFill (FillsPart c set (User n) (User n) (first_sign effects)) nowhere nowhere effects →
     called n flags seen ≡ Some inferred →
     (inferred.answer ≡ system_answer flags effects) × (bytes_made inferred.served ≡ served_bytes effects)
 
--- if an act is appended to a list of acts, the effect of the longer list is `inside_after` of the list's effect
+-- if an act is appended to a list of acts, `inside_after` of the list's `Inside` is the `Inside` of the longer list
 abbrev pub ActJoins : Type 0
 ActJoins = (acts : List BoundAct) (act : BoundAct) →
     inside_of (acts ++ act ∷ []) ≡ inside_after (inside_of acts) act.point act.act

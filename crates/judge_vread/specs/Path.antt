@@ -1,4 +1,4 @@
--- Follows a vread over its seen steps. The cases are the same as in the code.
+-- Follows a vread over its seen steps (kinds, found generations and keys). The cases are the same as in the code.
 use Rattle.std.specs.Prelude.{ℕ, ◌+◌, ◌-◌, ◌^◌, ◌==◌, ◌||◌, min, Bool, true, false, Option, Some, None, List, [], ◌∷◌}
 use Rattle.std.specs.Prelude.{if◌then◌else◌}
 use Rattle.std.specs.Option.{option_map}
@@ -20,11 +20,11 @@ use Rattle.judge_vread.specs.Seen.{rises}
 use Rattle.judge_vread.specs.Inside.{inside_of, reached_by}
 use Rattle.judge_vread.specs.Called.{called}
 
--- the published generation at a look; `found` is the base's generation that the look found
+-- the generation that is published at a look; `found` is the base's generation that the look found
 abbrev pub published : ℕ → ℕ
 published found = min (found + 1) (2 ^ 64 - 1)
 
--- ---- an attempt
+-- ---- one attempt of a vgetrandom call
 
 -- the result of an attempt, the state after it, and the seen steps after it
 pub record After : Type 0 where
@@ -44,7 +44,7 @@ looked_again n c keyed s left found rest = record {
   rest = rest;
 }
 
--- an attempt from its point Serve on; at Serve the state may have been wiped
+-- the part of an attempt from its copy on; the state may already have been wiped at Serve
 abbrev pub copied : Inside → ℕ → ℕ → Bool → VgetrandomState → List SeenStep → Option After
 copied inside n c keyed s (Ready found ∷ rest) =
     Some (looked_again n c keyed s (state_left inside.end (state_after_copy s c n)) found rest)
@@ -53,7 +53,7 @@ copied inside n c keyed s _ = None
 abbrev pub from_serve : Inside → ℕ → ℕ → Bool → VgetrandomState → List SeenStep → Option After
 from_serve inside n c keyed s seen = copied inside n c keyed (state_left inside.serve s) seen
 
--- the key that the system call at the front of some steps read, and the seen steps after the call
+-- the key that a system call at the front of the seen steps read, and the seen steps after this system call
 pub record Keyed : Type 0 where
   pub key : List ℕ
   pub rest : List SeenStep
@@ -64,13 +64,13 @@ key_in_front (Ready a ∷ Ready b ∷ Base other ∷ Cpu key ∷ rest) =
     Some (record { key = keystream key 32 32; rest = rest })
 key_in_front _ = None
 
--- an attempt from its point Written on, with the key that the attempt read
+-- the part of an attempt after it read a key; none if it read no key
 abbrev pub with_key : Inside → ℕ → ℕ → VgetrandomState → Option Keyed → Option After
 with_key inside n c s None = None
 with_key inside n c s (Some keyed) =
     from_serve inside n c true (record s { key = keyed.key; pos = 96 }) keyed.rest
 
--- an attempt from its point Start on; at Start the state may have been wiped
+-- the part of an attempt after its point Start, where the state may have been wiped; `g` is the published generation
 abbrev pub from_start : Inside → ℕ → ℕ → VgetrandomState → ℕ → List SeenStep → Option After
 from_start inside n c s g seen =
     if s.generation == g then from_serve inside n c false s seen
@@ -81,9 +81,9 @@ abbrev pub attempted : Inside → ℕ → ℕ → VgetrandomState → List SeenS
 attempted inside n c s (Ready found ∷ rest) = from_start inside n c (state_left inside.start s) (published found) rest
 attempted inside n c s _ = None
 
--- ---- a call
+-- ---- a whole vgetrandom call
 
--- the result of a call, and the state after it
+-- the result of a vgetrandom call, and the state after it
 pub record Followed : Type 0 where
   pub path : VreadPath
   pub state : VgetrandomState
@@ -91,23 +91,24 @@ pub record Followed : Type 0 where
 abbrev pub leaving : VgetrandomState → Option VreadPath → Option Followed
 leaving s o = option_map (λ path. record { path = path; state = s }) o
 
--- the result of a call that serves these bytes; none if steps are left
+-- the result of a vgetrandom call that serves the bytes of the recipe; none if steps are left
 abbrev pub at_end : Recipe → Reached → List SeenStep → Option VreadPath
 at_end recipe reached [] = Some (record { answer = Done; served = recipe; reached = reached })
 at_end recipe reached _ = None
 
--- the result of a call that the system answers; the system call is for all n bytes, and has the call's flags
+-- the result of a vgetrandom call that a system call answers; the system call is for all n bytes, and has the same
+-- flags
 abbrev pub by_system : ℕ → ℕ → Reached → List SeenStep → Option VreadPath
 by_system n flags reached seen =
     option_map (λ c. record { answer = c.answer; served = c.served; reached = reached }) (called n flags seen)
 
--- the rest of a call after its second attempt
+-- the rest of a vgetrandom call after its second attempt
 abbrev pub tried_again : ℕ → ℕ → Reached → Option After → Option Followed
 tried_again n flags reached None = None
 tried_again n flags reached (Some b) = leaving (state_after_call b.state)
     (if b.tried.holds then at_end b.tried.served reached b.rest else by_system n flags reached b.rest)
 
--- the rest of a call after its first attempt
+-- the rest of a vgetrandom call after its first attempt
 abbrev pub tried_once : ℕ → ℕ → Option After → Option Followed
 tried_once n flags None = None
 tried_once n flags (Some b) =
@@ -116,7 +117,7 @@ tried_once n flags (Some b) =
     else tried_again n flags (reached_by b.tried.keyed)
     (attempted (inside_of []) n b.tried.next_block b.state b.rest)
 
--- a call after a look that found the core ready
+-- a vgetrandom call after its first look, which found the core ready
 abbrev pub from_ready : ℕ → ℕ → Inside → VgetrandomState → List SeenStep → Option Followed
 from_ready n flags inside s seen =
     if n == 0 then leaving s (at_end no_recipe Nothing seen)
@@ -128,12 +129,12 @@ from_look n flags inside s (Unready ∷ rest) = leaving s (by_system n flags Not
 from_look n flags inside s (Ready found ∷ rest) = from_ready n flags inside s rest
 from_look n flags inside s _ = None
 
--- a call of vgetrandom
+-- a vgetrandom call for n bytes with these flags
 abbrev pub by_vgetrandom : ℕ → ℕ → Inside → VgetrandomState → List SeenStep → Option Followed
 by_vgetrandom n flags inside s seen =
     if is_bad flags then leaving s (by_system n flags Nothing seen) else from_look n flags inside s seen
 
--- if the state allows a copy without a call, the copy; otherwise a call
+-- if the state allows a copy without a vgetrandom call, this copy; otherwise a vgetrandom call
 abbrev pub copy_or_call : ℕ → ℕ → Inside → VgetrandomState → List SeenStep → Option Followed
 copy_or_call n flags inside s (Ready found ∷ rest) =
     if serves_locally (published found) s n

@@ -1,4 +1,4 @@
--- The seen steps of a line.
+-- The seen steps of a line (kinds, found generations and keys).
 use Rattle.std.specs.Prelude.{ℕ, ◌≡◌, ◌^◌, ◌<◌, ◌≤◌, ◌==◌, ◌&&◌, ⊤, Bool, true, false, List, [], ◌∷◌, nat_le}
 use Rattle.key_names.specs.declared.entries.BaseEntry.TheVariants.{Resume}
 use Rattle.key_names.specs.declared.entries.CpuEntry.{CpuEntry}
@@ -22,7 +22,8 @@ seen_kind Resumed = ResumedKind
 seen_kind (Cpu key) = CpuKind
 seen_kind Elsewhere = OtherCpu
 
--- a read of a CPU serves the bytes that the key in use gives; a visit with an entry of another kind may serve any bytes
+-- if the entry is a read, the visit serves the bytes that `key`, the key in use, gives; other visits may serve any
+-- bytes
 abbrev pub ServesBy : List ℕ → CpuEntry → List ℕ → Type 0
 ServesBy key (Read look refill taken) serves = serves ≡ taken_bytes key taken
 ServesBy key (Int look refill width filled) serves = ⊤
@@ -31,7 +32,7 @@ ServesBy key (Dump now) serves = ⊤
 ServesBy key Prepare serves = ⊤
 ServesBy key Online serves = ⊤
 
--- the seen step shows this look or visit; `cpu` is the caller's CPU
+-- the seen step shows the look or visit in the effect; `cpu` is the caller's CPU
 abbrev pub IsSeen : ℕ → SeenStep → Effect → Type 0
 IsSeen cpu Unready (looked g) = g ≡ 0
 IsSeen cpu (Ready found) (looked g) = (g ≡ found) × (1 ≤ found)
@@ -48,7 +49,7 @@ AllSeen cpu [] [] = ⊤
 AllSeen cpu (x ∷ seen) (d ∷ effects) = IsSeen cpu x d × AllSeen cpu seen effects
 AllSeen cpu _ _ = ⊥
 
--- whether the generation never falls from one look to the next; `last` is the generation before the first look
+-- whether the found generations never fall from look to look; `last` is the generation before the first look
 abbrev pub rises : ℕ → List SeenStep → Bool
 rises last [] = true
 rises last (Unready ∷ seen) = last == 0 && rises last seen
@@ -59,7 +60,7 @@ rises last (Resumed ∷ seen) = rises last seen
 rises last (Cpu key ∷ seen) = rises last seen
 rises last (Elsewhere ∷ seen) = rises last seen
 
--- the look found a generation below 2^63, as in each transcript
+-- if the seen step is a look, it found a generation below 2^63, as in each transcript
 abbrev pub LookFits : SeenStep → Type 0
 LookFits Unready = ⊤
 LookFits (Ready found) = found < 2 ^ 63

@@ -1,4 +1,4 @@
-//! Follows one attempt of a vgetrandom call over its steps.
+//! Follows one attempt of a vgetrandom call (a try to copy its bytes) over the seen steps.
 ghost use Rattle.std.specs.Prelude.{◌≡◌, ◌+◌, ◌^◌, ◌≤◌, IfSome, MatchOption, Some, None};
 ghost use Rattle.key_names.specs.Kernel.VgetrandomState.{state_left};
 ghost use Rattle.judge_vread.specs.Path.{published, copied, from_serve, key_in_front, from_start, attempted};

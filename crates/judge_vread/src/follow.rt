@@ -13,7 +13,8 @@ use crate::system_call::system_call;
 use key_names::{Answer, flags};
 use vdso_state::VState;
 
-/// The result of a call: its answer, the bytes that it served, and the points that its first attempt reached.
+/// The result of a vgetrandom call: its answer, the bytes that it served, and the points that its first attempt
+/// reached.
 #[derive(Drop)]
 pub struct VreadPath {
     pub answer: Answer,
@@ -131,7 +132,7 @@ fn by_vgetrandom(
     }
 }
 
-// Whether the state allows a copy of `len` bytes without a vgetrandom call.
+// Whether the state allows a copy of `len` bytes without a vgetrandom call, if a look found the generation `found`.
 fn serves_locally(st: &VState, found: u64, len: u32) -> bool
     ensures { result ≡ serves_locally (published found) st.now len }
 {

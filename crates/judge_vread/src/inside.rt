@@ -1,4 +1,4 @@
-//! The acts inside a call.
+//! The acts inside a vgetrandom call, and the points that the call reached.
 ghost use Rattle.std.specs.Prelude.{◌≡◌, ◌&&◌, ◌||◌, []};
 ghost use Rattle.key_names.specs.Kernel.Points.{is_same_point};
 ghost use Rattle.key_names.specs.Callers.VreadSteps.{is_wipe};
@@ -7,8 +7,8 @@ ghost use Rattle.judge_vread.specs.InsideSteps.{inside_after};
 
 use key_names::{InsideAct, Point};
 
-/// What the acts inside a call do: whether there are any, and at which points of the first attempt an act wipes the
-/// state.
+/// What the acts inside a vgetrandom call do: whether there are any, and at which points of the first attempt an act
+/// wipes the state.
 #[derive(Clone, Copy, Debug, PartialEq, Eq)]
 pub struct Inside {
     pub any: bool,
@@ -19,7 +19,7 @@ pub struct Inside {
 }
 
 impl Inside {
-    /// No acts.
+    /// For a vgetrandom call without acts: no act, and no wipe.
     pub fn none() -> Inside
         ensures { result ≡ inside_of [] }
     {
@@ -32,7 +32,7 @@ impl Inside {
         }
     }
 
-    /// Adds an act at this point.
+    /// Adds what the act `act` at the point `point` does.
     pub fn add(&mut self, point: Point, act: InsideAct)
         ensures { self.new ≡ inside_after self.old point act }
     {
@@ -51,14 +51,14 @@ fn is_wiped(wiped: bool, here: Point, point: Point, act: InsideAct) -> bool
     wiped || (point.is(here) && matches!(act, InsideAct::Wipe))
 }
 
-/// The points that the first attempt of a call reached.
+/// The points that the first attempt of a vgetrandom call reached.
 #[derive(Clone, Copy, Debug, PartialEq, Eq)]
 pub enum Reached {
-    /// There was no attempt.
+    /// None: there was no attempt.
     Nothing,
-    /// All but `Point::Written`: the key was current.
+    /// All but `Point::Written`: the state's key was current, so no key was read.
     AllButWritten,
-    /// All four: a key was read.
+    /// All four points: a key was read.
     All,
 }
 

@@ -1,4 +1,4 @@
-//! Seen steps: the data kept about a line's steps in order to make the line's bytes.
+//! Seen steps: what is kept of a line's steps to make the line's bytes.
 ghost use Rattle.std.specs.Prelude.{◌≡◌};
 ghost use Rattle.judge_vread.specs.Seen.{rises};
 
@@ -22,7 +22,7 @@ pub enum SeenStep {
     Elsewhere,
 }
 
-/// Whether the generation never falls from one look to the next.
+/// Whether the found generations never fall from one look to the next.
 pub(crate) fn rises(seen: &[SeenStep]) -> bool
     ensures { result ≡ rises 0 seen.now }
 {

@@ -15,7 +15,7 @@ const PIECE_BYTES: usize = 4096;
 const SHORT_BYTES: usize = 512;
 
 /// A recipe for the bytes of a read. There are fewer than 2^32 bytes, and at most the first 96 of them exist already.
-/// The others are a piece of a key's stream, and are made only when they are needed.
+/// The others are a piece of a key's keystream, and are made only when they are needed.
 #[derive(Drop)]
 pub struct Served {
     front: [u8; 96],
@@ -54,14 +54,14 @@ impl Served {
         }
     }
 
-    /// No bytes.
+    /// The recipe for no bytes.
     pub fn none() -> Served
         ensures { result ≡ no_recipe }
     {
         Served::of_key([0; 32], 0, 0)
     }
 
-    /// A user's read of `len` bytes with this key in use (`get_random_bytes_user`).
+    /// The recipe for a user's read of `len` bytes with this key in use (`get_random_bytes_user`).
     pub fn of_user(key: &[u8; 32], len: u32) -> Served
         ensures { result ≡ user_recipe key.now len }
     {
@@ -73,15 +73,15 @@ impl Served {
         }
     }
 
-    /// The kernel's read of `len` bytes with this key in use (`_get_random_bytes`).
+    /// The recipe for the kernel's read of `len` bytes with this key in use (`_get_random_bytes`).
     pub fn of_kernel(key: &[u8; 32], len: u32) -> Served
         ensures { result ≡ kernel_recipe key.now len }
     {
         Served::of_key(*key, 32, len)
     }
 
-    /// The integer of `width` bytes that a batch serves after `count` other integers. `key` was in use when the batch
-    /// was filled. `width * count` must be below 2^31.
+    /// The recipe for the integer of `width` bytes that a batch serves after `count` other integers. `key` was in use
+    /// when the batch was filled. `width * count` must be below 2^31.
     pub fn of_int(key: &[u8; 32], width: u8, count: u32) -> Served
         requires { width * count < 2 ^ 31 }
         ensures { result ≡ int_recipe key.now width count }
@@ -93,8 +93,9 @@ impl Served {
         )
     }
 
-    /// Copies `len` bytes out of a state, and changes the state as the copy does. Returns the bytes, and the key's next
-    /// block after the copy. `next_block` is the next block before it. Both `next_block` and `len` are at most 2^20.
+    /// Copies `len` bytes out of a state, and changes the state as the copy does. Returns the recipe for the bytes, and
+    /// the key's next block after the copy. `next_block` is the next block before it. Both `next_block` and `len` are
+    /// at most 2^20.
     pub fn of_copy(st: &mut VState, next_block: u64, len: u32) -> (Served, u64)
         requires near { next_block ≤ 2 ^ 20 }
         requires short { len ≤ 2 ^ 20 }
@@ -119,7 +120,7 @@ impl Served {
         (served, following)
     }
 
-    /// The number of bytes.
+    /// The number of bytes that the recipe makes.
     pub fn len(&self) -> usize
         ensures bytes { result ≡ length (bytes_made self.now) }
         ensures short { result < 2 ^ 32 }
@@ -127,7 +128,7 @@ impl Served {
         usize::from(self.front_len) + self.len as usize
     }
 
-    /// Appends the bytes to `out`.
+    /// Makes the bytes of the recipe, and appends them to `out`.
     ///
     /// # Errors
     ///
@@ -160,8 +161,8 @@ fn are_same(a: &[u8], b: &[u8]) -> bool
     a == b
 }
 
-/// Appends `len` bytes of the key's stream to `out`, from position `from` of the stream on. The bytes are made in a
-/// buffer. The buffer is cleared for each read, so it is no longer than needed.
+/// Appends `len` bytes of the key's keystream to `out`, from position `from` on. The bytes are made in a buffer. The
+/// buffer is cleared for each read, so it is no longer than needed.
 fn put_key(key: &[u8; 32], from: u64, len: usize, out: &mut Vec<u8>) -> Result<(), AllocError>
     requires { from + len < 2 ^ 40 }
     ensures made { IfOk result (λ _. out.new.items ≡ out.old.items ++ keystream key.now from len) }
@@ -174,7 +175,7 @@ fn put_key(key: &[u8; 32], from: u64, len: usize, out: &mut Vec<u8>) -> Result<(
     }
 }
 
-/// Appends bytes of the key's stream as `put_key` does, in pieces that have the buffer's length.
+/// Appends bytes of the key's keystream as `put_key` does, in pieces that have the buffer's length.
 fn put_key_by(
     key: &[u8; 32],
     from: u64,
@@ -198,7 +199,7 @@ fn put_key_by(
     Ok(())
 }
 
-/// Whether `bytes` equal the key's stream from position `from` on.
+/// Whether `bytes` equal the key's keystream from position `from` on.
 fn is_key(key: &[u8; 32], from: u64, bytes: &[u8]) -> bool
     requires { from + length bytes.now < 2 ^ 40 }
     ensures { IsTrue result ↔ (bytes.now ≡ keystream key.now from (length bytes.now)) }
@@ -210,7 +211,7 @@ fn is_key(key: &[u8; 32], from: u64, bytes: &[u8]) -> bool
     }
 }
 
-/// Compares bytes with the key's stream as `is_key` does, in pieces that have the buffer's length.
+/// Compares bytes with the key's keystream as `is_key` does, in pieces that have the buffer's length.
 fn is_key_by(key: &[u8; 32], from: u64, bytes: &[u8], piece: &mut [u8]) -> bool
     requires near { from + length bytes.now < 2 ^ 40 }
     requires room { 0 < length piece.old }

@@ -18,7 +18,7 @@ not_refused : (script : Script) (text output : List ℕ) → IsScript script tex
 not_refused script text output is refusal =
     let none = ap fault_in (script_again text script is) in cc (none, refusal.first)
 
--- a text of allowed length that begins with a script is not refused by `check` or `replay`
+-- if a text of allowed length begins with the script `script`, `check` and `replay` do not refuse the text
 not_judge_refused : (script : Script) (text output : List ℕ) → length text ≤ most_input → IsScript script (front text)
     → TellsFault text output → ⊥
 not_judge_refused script text output short is refusal =
@@ -27,7 +27,8 @@ not_judge_refused script text output short is refusal =
     not_refused script (front text) output is
     (record { fault = refusal.fault; first = sym same ∙ refusal.first; line = refusal.line })
 
--- if the status after the flush at the end of the output is a read fault, the status before the flush was one too
+-- `status` is the status before the flush at the end of the output, `result` the one after it. If `result` is a read
+-- fault, `status` was one too
 pub read_before : (status result : Status) (m n : ℕ) → AtOutputEnd status result m n → result ≡ ReadFault
     → status ≡ ReadFault
 read_before status result m n ended is = elim ended [
@@ -62,7 +63,7 @@ module _ (left_after a b : Option (List ℕ)) where
   judge_completes judge WriteFault (Some all) e read written = absurd (written refl)
   judge_completes judge Usage (Some all) e read written = absurd e
 
--- if a command that reads no input ended without a write fault, it is done, or memory ran out
+-- if a command that reads no input ended with another status than a write fault, it is done, or memory ran out
 pub ends_completes : (Of : List ℕ → Type 0) (status : Status) (a b : Option (List ℕ)) → EndsWith Of status a b
     → (status ≡ WriteFault → ⊥) → (status ≡ Done) ⊎ (status ≡ NoMemory)
 ends_completes Of Done a b e written = inl refl

@@ -1,5 +1,5 @@
--- If the status for an input is `Done` or `No`, the input is within the limit. All inputs above the limit have the same
--- refusal.
+-- If the status for an input is `Done` or `No`, the input is within its limit of bytes. All inputs above the limit have
+-- the same refusal.
 use Rattle.std.proofs.Common.{ℕ, ◌≡◌, ◌≤◌, ◌<◌, true, ltb, List, Some, length, sym, ap, ◌∙◌, arith, refl}
 use Rattle.std.proofs.lemmas.Bool.{lt-ltb}
 use Rattle.key_names.specs.declared.faults.FaultKind.TheVariants.{TooLong}
@@ -11,9 +11,9 @@ use Rattle.rng_tool.specs.JudgeOutcome.{JudgeCalls}
 use Rattle.rng_tool.specs.Outcome.{CallsFor}
 use Rattle.rng_tool.specs.declared.judge.Judge.{Judge}
 
--- ---- runs
+-- ---- the inputs of `run`: scripts
 
--- a text that is too long has its first fault at line 0
+-- a text of more than 16 MiB has its first fault at line 0, of the kind TooLong
 pub too_long : (text : List ℕ) → 16777216 < length text → first_fault text ≡ Some (record { line = 0; kind = TooLong })
 unfolding script_of
 too_long text long = let is : ltb 16777216 (length text) ≡ true = lt-ltb _ _ long in rw is refl
@@ -33,7 +33,7 @@ run_is_limited = record {
   };
 }
 
--- ---- checks and replays
+-- ---- the inputs of `check` and `replay`: a script and a transcript
 
 pub judge_is_limited : (judge : Judge) → IsLimited 100663296 (JudgeCalls judge)
 judge_is_limited judge = record {

@@ -22,7 +22,7 @@ use Rattle.rng_tool.specs.declared.judge.Judge.TheVariants.{Check, Replay}
 use Rattle.tool_ends.proofs.Inputs.{wider}
 use Rattle.rng_tool.proofs.Runs.{under_own_number}
 
--- if `made` is the transcript that the steps give, its text is the right output of `replay`
+-- if `made` is the one lawful transcript with the steps of `t`, the text of `made` is the right output of `replay`
 pub gives_back : (script : Script) (t made : List (List SeenLine)) → TranscriptFits made →
     IsTheTranscript script t made → GivesBack script t (transcript_text made)
 gives_back script t made fits is = record {
@@ -35,7 +35,8 @@ gives_back script t made fits is = record {
   };
 }
 
--- if an answer is right for a script and a transcript, and `input` is their text, the answer is right for `input`
+-- if status `s` and output `o` are right for a script and a transcript, and `input` consists of their texts, `s` and
+-- `o` are right for `input`
 pub pair_said : (judge : Judge) (input : List ℕ) (script : Script) (t : List (List SeenLine)) → IsPair input script t →
     (s : Status) (o : List ℕ) → SaidOf judge script t s o → JudgeCalls judge input s o
 pair_said judge input script t pair Done o said = record { script = script; lines = t; pair = pair; says = said }
@@ -53,7 +54,7 @@ pair_said judge input script t pair ReadFault o said = absurd said
 pair_said judge input script t pair WriteFault o said = absurd said
 pair_said judge input script t pair NoMemory o said = absurd said
 
--- a transcript without the script's lines fails clause 2
+-- if a transcript does not have the script's lines, clause 2 is the first that fails
 lacks_lines : (judge : Judge) (script : Script) (t : List (List SeenLine)) → (HasLines script t → ⊥) →
     Fails judge script t lines_clause
 lacks_lines Check script t fails = fails
@@ -72,7 +73,7 @@ clause_said judge input number fails = elim fails.clause [
   )
 ]
 
--- if a text fails clause 1 or 2, the line `no 1` or `no 2` is a right answer
+-- if the input's text fails clause `number` (1 or 2), status `No` and the line `no` with this number are a right answer
 text_said : (judge : Judge) (input : List ℕ) (number : ℕ) → FailsAsText input number → (s : Status) (o : List ℕ) →
     (s ≡ No) × (o ≡ no_line number) → JudgeCalls judge input s o
 text_said judge input number is s o said = subst (λ status. JudgeCalls judge input status o) (sym said.0) (record {
@@ -84,7 +85,8 @@ text_said judge input number is s o said = subst (λ status. JudgeCalls judge in
   line = said.1;
 })
 
--- if an input is not read as a script and a transcript, the refusal for this reason is a right answer
+-- if `input` cannot be read as a script and a transcript, for the reason `why`, the refusal for this reason is a right
+-- answer
 pub none_said : (judge : Judge) (input : List ℕ) (why : NotRead) → IsNoPair input why → (s : Status) (o : List ℕ) →
     RefusalOf why s o → JudgeCalls judge input s o
 none_said judge input SourceFails is s o said = absurd is
@@ -94,7 +96,7 @@ none_said judge input NoTranscript is s o said = text_said judge input 1 is s o 
 none_said judge input TooManyLines is s o said = text_said judge input 2 is.0 s o said
 none_said judge input Unread is s o said = absurd said
 
--- if the text after a script is all of a run's output, `yes` is the right answer
+-- if the text after a script is the whole output of a run of this script, `yes` is the right answer of `check`
 pub run_said : (judge : Judge) (input : List ℕ) (script : Script) (text : After) → IsApart input script text →
     IfSome (compared_with text) (λ t. (judge ≡ Check) × RunOf script (transcript_text t)) → IsWhole text →
     JudgeCalls judge input Done yes_line
@@ -108,7 +110,8 @@ run_said judge input script (Compared comparison) apart made whole =
     })
 run_said judge input script (Fed reader) apart made whole = absurd whole
 
--- if an input is not read as a script and a transcript, its refusal is a right answer
+-- if `input` cannot be read as a script and a transcript, for the reason `why`, writing the refusal ends the command as
+-- its contract states
 pub refusal_said : (judge : Judge) (input : List ℕ) (why : NotRead) → IsNoPair input why → (status : Status)
     (held held_after : Option (List ℕ)) → RefusalEnds why status held held_after →
     WritesEnds (JudgeCalls judge input) status held held_after

@@ -37,7 +37,7 @@ memory_ends left left_after held now after ends kept = record {
   written = whole_cut held now after ends.output ends.written kept;
 }
 
--- ---- sessions that end with the line of a refusal
+-- ---- sessions whose output ends with the line `refused LINE KIND`
 
 module _ (left left_after held now after : Option (List ℕ)) (text emitted line : List ℕ) (all : EmittedAll text emitted)
     (refusal : RefusesBy left left_after text line) where
@@ -97,7 +97,7 @@ line_ends left left_after held now after number line result ends same answered p
     refused_by left left_after held now after result line (not_alone_line number) (EmittedToLine number) ends
     (λ text emitted is. (is.all, inr (number, is.not_alone, refl))) same answered put
 
--- ---- after the flush
+-- ---- how a session has ended after the flush of its output
 
 prefix_kept : (a b c : Option (List ℕ)) (text : List ℕ) → AppendsPrefix a b text → Keeps b c → AppendsPrefix a c text
 prefix_kept a b c text p kept = (p.0, p.1, appends_kept a b c _ p.2 kept)

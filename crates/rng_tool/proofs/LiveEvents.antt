@@ -33,7 +33,7 @@ use Rattle.rng_tool.proofs.LiveRuns.{going, one_emitted}
 use Rattle.rng_tool.proofs.LiveTexts.{lined_up, no_bytes}
 use Rattle.rng_tool.proofs.WrittenLines.{next_line}
 
--- ---- parts of the contracts of `SessionWriter`
+-- ---- what the contracts of `SessionWriter` need
 
 pub starts : WaitsAt [] []
 starts = record {
@@ -64,7 +64,7 @@ cut_writes (Err stop) held held_now text is prefix =
 pub at_open : (t : SessionWriter) (text emitted : List ℕ) → IsAt text emitted t → t.is_over ≡ false → At false t.run text emitted
 at_open t text emitted at is = subst (λ b. At b t.run text emitted) is at
 
--- ---- a line that adds no event
+-- ---- after a line that adds no event
 
 pub waits_goes : (t : SessionWriter) (text line emitted : List ℕ) (start held : Option (List ℕ)) → IsAt text emitted t
     → t.is_over ≡ false → IsPart line → IsWaiting (lined_up text line) → Appends start held emitted
@@ -94,7 +94,7 @@ faulty_goes t text line emitted start held fault at unended clean faulty before 
   written = before;
 }
 
--- ---- at the line `end`
+-- ---- after the line `end`
 
 pub end_by : (run : Option LoneRun) (result : Result (Unit {0}) Stop) (next : SessionWriter) (text line emitted : List ℕ)
     (start held held_now : Option (List ℕ)) (view : DraftView) → At false run text emitted → IsPart line
@@ -113,7 +113,7 @@ end_by (Some run) result next text line emitted start held held_now view r clean
     (has_ended r.front emitted (lined_up text line) run h end.0 (ended_runs text line clean run emitted view r ended) ended.short
     end.1 end.2)
 
--- ---- at the third line
+-- ---- after the third line of the script, which opens the run
 
 open_with : (result : Result (Unit {0}) Stop) (run_after : Option LoneRun) (next : SessionWriter) (text line emitted : List ℕ)
     (start held held_now : Option (List ℕ)) (view : DraftView) (clean : IsPart line) (w : WaitsAt text emitted)
@@ -158,7 +158,7 @@ open_by result t next text line emitted start held held_now view at unended none
     by_result (Err (Refused fault)) both = absurd both.1
     by_result (Err (NotAlone number)) both = absurd both.1
 
--- ---- at an event
+-- ---- after the line of an event
 
 last_same : (xs ys : List Event) (x y : Event) → xs ++ x ∷ [] ≡ ys ++ y ∷ [] → x ≡ y
 last_same [] [] x y is = cc
@@ -179,7 +179,7 @@ module _ (text line : List ℕ) (clean : IsPart line) (emitted : List ℕ) (view
 
   module _ (front : List Event) (event : Event) (none : view.has_orphan ≡ false) (once : IsEmittedOnce event)
       (shown : view.events.now ≡ front ++ event ∷ []) where
-    -- the reader's draft is the run's draft with the new event
+    -- the draft (the script so far) that the reader has is the draft of the run with the new event
     seen : (o.draft.version ≡ r.has.draft.version) × (o.draft.cpus ≡ r.has.draft.cpus) × (o.draft.done ≡ [])
         × (o.draft.events ≡ r.has.draft.events ++ added.event ∷ [])
     seen = shows_event (lined_up text line) r.has.draft o.draft added.event (r.has.next + 1) view.number r.has.lone
@@ -225,7 +225,7 @@ module _ (text line : List ℕ) (clean : IsPart line) (emitted : List ℕ) (view
       text = ap (λ t. t ++ whole_line last) r.has.text ∙ sym (next_line r.has.lines last);
     }
 
-  -- ---- a fork, or an act
+  -- ---- after the line of a fork, or of an act inside a vgetrandom call
 
   not_once : (view.has_orphan ≡ true)
       ⊎ ((front : List Event) (event : Event) → view.events.now ≡ front ++ event ∷ [] → IsEmittedOnce event → ⊥)

@@ -46,7 +46,8 @@ faulty_hopeless text fault faulty = λ s more is.
       | inr short ↦ fails_hopeless text more fault s (faulty.short (omega (arith, short))) is
     ]
 
--- if no script of one caller begins with `front` and `line`, none begins with `front` and whole lines from `line` on
+-- if no script of one caller begins with `front` and `line`, none begins with `front`, `line` and whole lines after
+-- `line`
 last_by : (front line more : List ℕ) → IsPart line
     → ((s : Script) (later : List ℕ) → IsScript s (lined_up front line ++ later) → IsEmittedByOne s → ⊥)
     → IsLast front (line ++ 10 ∷ more)
@@ -73,7 +74,7 @@ stuck_last : (front rest : List ℕ) → IsStuck front rest → IsLast front res
 stuck_last front rest stuck = subst (IsLast front) (sym stuck.is)
     (last_by front stuck.line stuck.more stuck.clean (λ s later is one. stuck.hopeless s later is))
 
--- ---- what is written, in parts
+-- ---- what was written for a part of the text
 
 abbrev pub PartBy : Bool → Option LoneRun → List ℕ → List ℕ → Type 0
 PartBy is_over run text emitted =
@@ -142,13 +143,14 @@ at_more false (Some run) text more emitted (inr part) at = record {
     rest_on (inl clean) = inl (longer_part at.rest more clean part)
     rest_on (inr stuck) = inr (stuck_more at.front at.rest more stuck)
 
--- ---- one more line
+-- ---- the text with one more line
 
 module _ (text line : List ℕ) (clean : IsPart line) where
   whole_now : IsWhole (lined_up text line)
   whole_now = inr (text ++ line, sym (append_assoc text line (10 ∷ [])))
 
-  -- if `rest` is the first part of the next line, the script fails, ends or goes on after this line
+  -- if `text` ends with `rest`, the first part of the line that `line` completes, the script fails, ends or goes on
+  -- after this line
   turn_now : (front rest : List ℕ) (d : Draft) (n : ℕ) → text ≡ front ++ rest → IsPart rest → IsLone d
       → GoesOnFrom front d n → Turn (lined_up text line) d n
   turn_now front rest d n parts part lone goes =
@@ -184,7 +186,7 @@ module _ (text line : List ℕ) (clean : IsPart line) where
         full = subst (λ t. 16777216 < length t + 4) same full.1;
       }
 
-  -- ---- the reader waits
+  -- ---- a line after which the reader waits for more
 
   runs_on : (run : LoneRun) (emitted : List ℕ) (r : RunsAt run text emitted) → IsWaiting (lined_up text line)
       → IsPart r.rest ⊎ IsStuck r.front r.rest → IsStuck r.front (r.rest ++ (line ++ 10 ∷ []))
@@ -221,8 +223,8 @@ module _ (text line : List ℕ) (clean : IsPart line) where
 
   -- ---- a line after which no script of one caller is possible
 
-  -- if no script of one caller begins with `text` and `line`, none begins with `front` and the whole lines after
-  -- `front`
+  -- if no script of one caller begins with `text` and `line`, none begins with `front` and one or more whole lines
+  -- after it
   last_now : (front rest more : List ℕ) → text ≡ front ++ rest → IsPart rest ⊎ IsStuck front rest
       → ((s : Script) (later : List ℕ) → IsScript s (lined_up text line ++ later) → IsEmittedByOne s → ⊥)
       → IsLast front (rest ++ (line ++ 10 ∷ more))
@@ -269,7 +271,7 @@ module _ (text line : List ℕ) (clean : IsPart line) where
   faulty_all fault faulty (Some run) emitted more r =
       doomed_run run emitted more r (λ s later is one. faulty_hopeless (lined_up text line) fault faulty s later is)
 
-  -- ---- the line `end`
+  -- ---- the line `end` of the script
 
   pub ended_waits : (emitted : List ℕ) (view : DraftView) → (w : WaitsAt text emitted) → IsEnded (lined_up text line) view → ⊥
   ended_waits emitted view w e = by_waiting w.waits
@@ -311,7 +313,7 @@ module _ (text line : List ℕ) (clean : IsPart line) where
           ∙ sym (line_and_more r.front on.line on.more))
           (ended_is (lined_up text line) e.draft view.number e.ends e.short)))
 
--- ---- the end of the run
+-- ---- the output of a session whose run has ended
 
 ended_text : (emitted : List ℕ) (lines : List SeenLine) (last : SeenLine) → emitted ≡ begun lines
     → begun (lines ++ last ∷ []) ++ codes "end\n" ≡ emitted ++ (whole_line last ++ codes "end\n")
@@ -334,7 +336,7 @@ has_ended front emitted text run h last ends short lawful fits = record {
       (h.lines ++ last ∷ []) (each_more LineFits h.lines last h.fit fits) lawful);
 }
 
--- if `emitted` was written and then `more`, the sink holds both
+-- if the sink got `emitted` and then `more`, it got `emitted ++ more`
 written_more : (start held held_now : Option (List ℕ)) (emitted more : List ℕ) → Appends start held emitted
     → Appends held held_now more → Appends start held_now (emitted ++ more)
 written_more start held held_now emitted more before now = Appends-trans start held held_now emitted more before now
@@ -368,7 +370,7 @@ goes_to_end (Err NoMemory) start held held_now text emitted more t before now ov
 goes_to_end (Err (Refused fault)) start held held_now text emitted more t before now over none ended = absurd now
 goes_to_end (Err (NotAlone number)) start held held_now text emitted more t before now over none ended = absurd now
 
--- ---- the run goes on with a line
+-- ---- a line at which the run is open
 
 at_run : (t : SessionWriter) (run : LoneRun) (text emitted : List ℕ) → t.is_over ≡ false → t.run ≡ Some run → HasRun text emitted run
     → At t.is_over t.run text emitted
@@ -400,11 +402,11 @@ goes_to_run (Err NoMemory) start held held_now text emitted more t run before no
 goes_to_run (Err (Refused fault)) start held held_now text emitted more t run before now over is has = absurd now
 goes_to_run (Err (NotAlone number)) start held held_now text emitted more t run before now over is has = absurd now
 
--- ---- the third line
+-- ---- the third line of the script, which opens the run
 
 module _ (text line : List ℕ) (clean : IsPart line) (emitted : List ℕ) (view : DraftView) (o : IsOpen (lined_up text line) view)
   where
-    -- at the third line the draft has no finished block and no event
+    -- at the third line of the script, the draft (the script so far) has no finished caller and no event
     pub opens_waits : (w : WaitsAt text emitted) → (o.draft.done ≡ []) × (o.draft.events ≡ [])
     opens_waits w = by_waiting w.waits
       where
@@ -447,7 +449,7 @@ module _ (text line : List ℕ) (clean : IsPart line) (emitted : List ℕ) (view
           text = ap (λ t. t ++ codes "rngtranscript 1\n") w.nothing;
         }
 
-    -- ---- an event's line
+    -- ---- a line that adds an event
 
     -- the event that the line adds
     pub record AddsEvent (r : LoneRun) (front : List ℕ) (h : HasRun front emitted r) : Type 0 where

@@ -1,4 +1,4 @@
--- After one more line, a script that is being read fails, goes on, or ends.
+-- After one more line, a script that is being read has a fault, goes on, or is over.
 use Rattle.std.proofs.Common.{◌≡◌, ℕ, zero, suc, ◌+◌, ◌==◌, ltb, inl, inr, true, false, None, Result, Ok, Err, List, [], ◌∷◌, ◌++◌, append_assoc, length, refl, sym, ap, subst, ◌∙◌, arith}
 use Rattle.std.specs.List.{AllByRecursion, list_any}
 use Rattle.std.specs.Prelude.{codes, if◌then◌else◌}
@@ -27,12 +27,12 @@ use Rattle.event_script.proofs.GoingOn.{Begins, closes, lone_blocks, script_begi
 use Rattle.rng_tool.specs.LiveSteps.{IsPart}
 use Rattle.rng_tool.proofs.LiveTexts.{lined_up}
 
--- ---- different answers exclude each other
+-- ---- no text does two of these: fail, go on, or end
 
 same_err : {A : Type 0} (f g : ScriptFault) → ◌≡◌ {A = Result A ScriptFault} (Err f) (Err g) → f ≡ g
 same_err f g e = cc
 
--- `bare`: how a text is read if nothing follows. `wordless`: how a text is read if the line `x` follows
+-- `bare`: what is read if nothing follows the text; `wordless`: what is read if the line `x` follows the text
 abbrev bare : List ℕ → Result Script ScriptFault
 bare text = script_of_lines (parts 10 (text ++ []))
 
@@ -59,7 +59,7 @@ wordless_goes text d n goes = goes (codes "x\n") ∙ unknown d n
 bare_ends : (text : List ℕ) (d : Draft) (n : ℕ) → EndsWith text d n → bare text ≡ Ok (script_of_draft d)
 bare_ends text d n ends = ends []
 
--- no text both fails and goes on
+-- if every text that begins with `text` has the fault `fault`, no events can follow `text`
 pub fails_not_goes : (text : List ℕ) (fault : ScriptFault) (d : Draft) (n : ℕ) → FailsWith text fault
     → GoesOnFrom text d n → ⊥
 fails_not_goes text fault d n fails goes =
@@ -76,14 +76,15 @@ pub goes_not_ends : (text : List ℕ) (d other : Draft) (n m : ℕ) → GoesOnFr
 goes_not_ends text d other n m goes ends =
     let e = sym (bare_goes text d n goes) ∙ bare_ends text other m ends in absurd cc
 
--- a text that fails still fails if more text follows
+-- if every text that begins with `text` has the fault `fault`, this also holds of `text ++ more`
 pub fails_on : (text more : List ℕ) (fault : ScriptFault) → FailsWith text fault → FailsWith (text ++ more) fault
 fails_on text more fault fails = λ later.
     ap (λ t. script_of_lines (parts 10 t)) (append_assoc text more later) ∙ fails (more ++ later)
 
--- ---- a text before its first event
+-- ---- a text that ends before the script's first event
 
--- the line that comes next: the version; the CPUs, if the version was read; or the first caller, if both were read
+-- the line of the script that comes next: the version; or the CPUs, after the version was read; or the first caller,
+-- after both were read
 pub data Awaited : Type 0 where
   FirstLine : Awaited
   SecondLine : ℕ → Awaited
@@ -115,7 +116,7 @@ awaits_by text (Faulty fault line) goes head = absurd head
 pub awaits : (text : List ℕ) → IsBeforeEvents text → Awaits text
 awaits text before = awaits_by text before.stage before.goes_on before.is_head
 
--- an empty line that comes next has the fault Unfinished, at the number of this line
+-- if nothing follows the text, it has the fault Unfinished, at the number of the line that comes next
 bare_of : (next : Awaited) → (n : ℕ) × (goes_from next ([] ∷ []) ≡ Err (record { line = n; kind = Unfinished }))
 bare_of FirstLine = (1, refl)
 bare_of (SecondLine version) = (2, refl)
@@ -140,7 +141,7 @@ awaits_not_fails text fault a fails =
     (ap (λ (f : ScriptFault). f.kind)
     (same_err {A = Script} _ _ (sym (fails []) ∙ (a.goes [] ∙ (bare_of a.next).1))))
 
--- after events, the line `end` never has the fault BadCaller
+-- if the line `end` follows the draft `d` (the script so far), it never has the fault BadCaller
 end_kind : (d : Draft) (n m : ℕ) → script_from d n (parts 10 end_line) ≡ Err (record { line = m; kind = BadCaller }) → ⊥
 unfolding script_from
 end_kind d n m e =
@@ -164,7 +165,7 @@ awaits_not_from text d n (ThirdLine version cpus) goes on =
 pub awaits_not_goes : (text : List ℕ) (d : Draft) (n : ℕ) → Awaits text → GoesOnFrom text d n → ⊥
 awaits_not_goes text d n a on = awaits_not_from text d n a.next a.goes on
 
--- ---- a line of the head
+-- ---- the first three lines of a script
 
 -- a text, a line and later text are read in the same way, however they are grouped
 with_line : (text line later : List ℕ) → IsPart line
@@ -179,7 +180,8 @@ whole line = if list_any is_unprintable line then Err BadByte else Ok line
 line_is : (line later : List ℕ) → line_of (line ∷ parts 10 later) ≡ whole line
 line_is line later = rw (first_part 10 later).is refl
 
--- after one more line of the head the text fails, goes on, or opens the first caller
+-- after one more of the first three lines, the text fails, goes on to the next of these lines, or opens the first
+-- caller
 pub data HeadTurn (text : List ℕ) : Type 0 where
   fails : (fault : ScriptFault) → FailsWith text fault → HeadTurn text
   goes_on : Awaits text → HeadTurn text
@@ -235,7 +237,7 @@ head_turn text line clean a =
     with_line text line later clean ∙ a.goes (line ++ 10 ∷ later)
     ∙ ap (goes_from a.next) (parts_at 10 line later clean))
 
--- ---- a line after events of a lone caller
+-- ---- a line after the events of a script's only caller
 
 no_fork_from : (n : ℕ) (event : Event) → fork_in event ≡ None → is_fork_from n event ≡ false
 no_fork_from n (Fork child) none = absurd cc
@@ -324,7 +326,7 @@ turn text line d n clean lone goes =
     with_line text line later clean ∙ goes (line ++ 10 ∷ later)
     ∙ ap (script_from d n) (parts_at 10 line later clean) ∙ line_goes d n line later)
 
--- ---- the draft that a reader shows
+-- ---- the draft (the script so far) that the reader shows
 
 end_step : (d : Draft) (n : ℕ) → has_orphan d ≡ false → script_from d n (parts 10 end_line) ≡ Ok (script_of_draft d)
 unfolding script_from
@@ -354,7 +356,7 @@ emitted_unforked event one = refl
 
 module _ (text : List ℕ) (d other : Draft) (e : Event) (n m : ℕ) (lone : IsLone d)
     (goes : GoesOnFrom text (with_event d e) n) (seen : GoesOnFrom text other m) where
-  -- if no fork waits for its block, the reader's draft is `d` with the event `e`
+  -- if no fork in the reader's draft waits for its child's block, the reader's draft is `d` with the event `e`
   pub shows_event : has_orphan other ≡ false
       → (other.version ≡ d.version) × (other.cpus ≡ d.cpus) × (other.done ≡ []) × (other.events ≡ d.events ++ e ∷ [])
   shows_event none =
@@ -369,7 +371,7 @@ module _ (text : List ℕ) (d other : Draft) (e : Event) (n m : ℕ) (lone : IsL
         sym both.1,
       )
 
-  -- if a fork waits for its block, the event is that fork
+  -- if a fork in the reader's draft waits for its child's block, the event `e` is that fork
   forks : has_orphan other ≡ true → fork_in e ≡ None → ⊥
   forks orphan none =
       let with_lone : IsLone (with_event d e) = record {
@@ -382,7 +384,8 @@ module _ (text : List ℕ) (d other : Draft) (e : Event) (n m : ℕ) (lone : IsL
   pub forks_or_acts : has_orphan other ≡ true → IsEmittedOnce e → ⊥
   forks_or_acts orphan once = forks orphan (emitted_unforked e once)
 
--- if a script of one caller begins with these lines, their last event is no act and no fork
+-- if a script of one caller, who forks nobody and acts inside no vgetrandom call, begins with `text`, whose last event
+-- is `e`, then `e` is no act and no fork
 pub event_dooms : (text more : List ℕ) (d : Draft) (e : Event) (n : ℕ) (s : Script)
     → GoesOnFrom text (with_event d e) n → IsScript s (text ++ more) → IsEmittedByOne s → IsEmittedOnce e
 event_dooms text more d e n s goes is one =
@@ -392,7 +395,7 @@ event_dooms text more d e n s goes is one =
     let block = each_right (AllByRecursion IsEmittedOnce) d.done _ once in
     (each_right IsEmittedOnce d.events (e ∷ []) (each_left IsEmittedOnce (d.events ++ e ∷ []) b.es block.0)).0
 
--- the lines of a script's text are read as that script
+-- if `text` is the text of the script `s`, its lines are read as `s`
 pub script_lines_again : (s : Script) (text : List ℕ) → IsScript s text → script_of_lines (parts 10 text) ≡ Ok s
 unfolding script_of
 script_lines_again s text is =
@@ -402,7 +405,7 @@ script_lines_again s text is =
       | inr short ↦ rw short at ok
     ]
 
--- no script begins with a faulty text
+-- if every text that begins with `text` has the fault `fault`, no script begins with `text`
 pub fails_hopeless : (text more : List ℕ) (fault : ScriptFault) (s : Script) → FailsWith text fault
     → IsScript s (text ++ more) → ⊥
 fails_hopeless text more fault s fail is =

@@ -14,7 +14,7 @@ use Rattle.rng_tool.specs.LiveSteps.{IsHopeless, IsPart}
 use Rattle.rng_tool.proofs.LiveLines.{bare_goes, script_lines_again}
 use Rattle.rng_tool.proofs.LiveTexts.{first_feed, no_bytes, no_items}
 
--- ---- the end of a script's text
+-- ---- a script's text ends with the line `end`
 
 map-append : (xs ys : List (List (List ℕ))) → map spaced (xs ++ ys) ≡ map spaced xs ++ map spaced ys
 map-append [] ys = refl
@@ -33,7 +33,7 @@ head_of s =
 pub script_ends : (s : Script) → script_text s ≡ lined (map spaced (head_of s)) ++ end_line
 script_ends s = ends_lines (head_of s)
 
--- ---- two ends of one text
+-- ---- one text, cut into two parts at two places
 
 -- if a text is cut in two at two places, the longer first part is the shorter first part, followed by some `mid`
 pub cut_again : (a b c d : List ℕ) → a ++ b ≡ c ++ d → length c ≤ length a → (mid : List ℕ) × (a ≡ c ++ mid) × (mid ++ b ≡ d)
@@ -51,7 +51,8 @@ end_clean =
     All-cons (λ x. (x == 10) ≡ false) 101 (110 ∷ 100 ∷ []) refl
     (All-cons (λ x. (x == 10) ≡ false) 110 (100 ∷ []) refl (All-cons (λ x. (x == 10) ≡ false) 100 [] refl no_bytes))
 
--- if whole lines contain a part of a script's line `end`, they contain all of this line
+-- let whole lines end with `mid`, and let the line `end` begin with `mid`, which is not empty. Then `mid` is all of
+-- this line
 all_there : (front mid more body : List ℕ) → front ++ 10 ∷ [] ≡ body ++ mid → mid ++ more ≡ end_line → 0 < length mid
     → more ≡ []
 all_there front mid more body is end some =
@@ -68,7 +69,7 @@ all_there front mid more body is end some =
       length-append (codes "end") (10 ∷ feed.0),
     ))
   where
-    -- a part at the end of whole lines ends with a line feed
+    -- if `part` is not empty and is the end of a text of whole lines, `part` ends with a line feed
     cut_last : (part text before lines : List ℕ) → text ≡ before ++ part → text ≡ lines ++ 10 ∷ [] → 0 < length part
         → (first : List ℕ) × (part ≡ first ++ 10 ∷ [])
     cut_last part text [] lines is whole some = (lines, sym is ∙ whole)
@@ -79,7 +80,8 @@ all_there front mid more body is end some =
         cut_last part (before ++ part) before lines refl
         (let tails : before ++ part ≡ lines ++ 10 ∷ [] = cc in tails) some
 
--- if events may follow some whole lines, but the line `end` has no room after these lines, no script begins with them
+-- if events may follow the whole lines in `text`, but the line `end` would exceed 16 MiB after them, no script begins
+-- with `text`
 pub full_hopeless : (text : List ℕ) (d : Draft) (n : ℕ) → GoesOnFrom text d n → IsWhole text
     → 16777216 < length text + 4 → IsHopeless text
 full_hopeless text d n goes (inl none) full = absurd (omega (arith, full, ap length none))

@@ -1,4 +1,5 @@
--- If a session's run has made the events so far and is then closed, `emitted` is the output for the script so far.
+-- Suppose that a session's run has made the events of a text, and is then closed. Then `emitted` is the right output
+-- for this text.
 use Rattle.std.proofs.Common.{◌≡◌, ℕ, ◌⊎◌, inl, inr, Bool, true, false, Option, None, Some, List, [], ◌∷◌, ◌++◌, map, refl, sym, ap, subst, ◌∙◌, append-nil}
 use Rattle.std.specs.Prelude.{IfSome, IsSomeAnd, codes}
 use Rattle.std.specs.List.{AllByRecursion}
@@ -30,7 +31,7 @@ module _ (front emitted : List ℕ) (run : LoneRun) (h : HasRun front emitted ru
   pub is_well : WellFormed (script_of_draft h.draft)
   is_well = well_formed front h.draft h.next h.goes (lone_blocks h.draft h.lone) h.room
 
-  -- the run so far is also a run of the script that ends here
+  -- the run so far is also a run of the script that consists of the draft (the script so far) and the line `end`
   pub going : IsGoing (script_of_draft h.draft) [] run h.lines
   going = h.made (script_of_draft h.draft) [] is_well (one_emitted h.draft h.lone h.once) refl
       (rw h.lone.first (ap (λ e. e ∷ []) (sym (append-nil h.draft.events))))
@@ -54,9 +55,9 @@ emitted_whole front emitted h = record {
   run = h.run;
 }
 
--- ---- the run that is closed
+-- ---- closing a run adds its last line
 
--- closing the run makes the last line of a lawful transcript
+-- if the run has made all events of a script, closing it makes the last line of a lawful transcript
 abbrev pub Closes : Option LoneRun → Type 0
 Closes run = (script : Script) (lines : List SeenLine) → IsSomeAnd run (λ r. IsGoing script [] r lines)
     → (last : SeenLine) × IsLawful script (lines ++ last ∷ [])

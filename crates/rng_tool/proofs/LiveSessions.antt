@@ -1,4 +1,4 @@
--- A session over a whole input: line by line in each piece, piece by piece, and the end of the input.
+-- A session over a whole input: each line in a piece of the input, each piece, and then the end of the input.
 use Rattle.std.proofs.Common.{◌≡◌, ℕ, ◌<◌, ◌≤◌, ◌⊎◌, inl, inr, Bool, true, false, Option, None, Some, List, [], ◌∷◌, ◌++◌, sym, ap, subst, ◌∙◌, append_assoc, append-nil, length, arith}
 use Rattle.std.specs.Prelude.{IsErrAnd, Result, Ok, Err}
 use Rattle.std.specs.Io.KnownBytes.{Appends, Consumes}
@@ -30,7 +30,7 @@ use Rattle.rng_tool.proofs.LiveLines.{Awaited, FirstLine, SecondLine, ThirdLine,
 use Rattle.rng_tool.proofs.LiveRuns.{CanClose, Closes, can_close, closed_all, closed_part}
 use Rattle.rng_tool.proofs.LiveTexts.{line_and_more, more_in_rest}
 
--- ---- one line
+-- ---- reading one line
 
 pub reads_line : (text line emitted piece : List ℕ) (progress : ScriptProgress) (t : SessionWriter) → IsAt text emitted t → t.is_over ≡ false
     → IsPart line → piece ≡ line ++ 10 ∷ [] → IsProgress (text ++ piece) progress
@@ -60,7 +60,7 @@ line_goes (Ok u) start held text s goes fed = record {
 }
 line_goes (Err stop) start held text s goes fed = goes
 
--- ---- a session after a part of a piece
+-- ---- a session that has read a part of a piece
 
 part_stays : (text more emitted : List ℕ) (t : SessionWriter) → TellsPart text emitted t → TellsPart (text ++ more) emitted t
 part_stays text more emitted t p = record {
@@ -94,7 +94,7 @@ line_stays text more number n = record {
   not_once = n.not_once;
 }
 
--- a session that stopped after a text has also stopped if more text follows
+-- if a session stopped after `text`, it also counts as stopped after `text ++ more`
 pub stop_stays : (stop : Stop) (start held : Option (List ℕ)) (text more : List ℕ) (t : SessionWriter)
     → StopsAt stop start held text t → StopsAt stop start held (text ++ more) t
 stop_stays ReadFault start held text more t s = s
@@ -113,7 +113,7 @@ stop_stays (NotAlone number) start held text more t s = record {
   written = s.written;
 }
 
--- if a session stops at a line of a piece, it stops in this piece
+-- if a session stops at a line inside `piece`, it stops in `piece`
 pub stop_of_piece : (result : Result (Unit {0}) Stop) (stop : Stop) (start held : Option (List ℕ))
     (text piece front more : List ℕ) (s : Session) → IsErrAnd result (λ x. x ≡ stop) → piece ≡ front ++ more
     → StopsAt stop start held (text ++ front) s.session_writer → SessionGoes result start held (text ++ piece) s
@@ -124,7 +124,7 @@ stop_of_piece (Err x) stop start held text piece front more s is parts stops =
     (append_assoc text front more ∙ ap (λ y. text ++ y) (sym parts))
     (stop_stays stop start held (text ++ front) more s.session_writer stops))
 
--- after one more line, the session has read the part of the piece up to this line
+-- after the next line `line` of a piece, the session has read `done ++ line` of this piece
 pub line_read : (start held : Option (List ℕ)) (text done line : List ℕ) (s : Session)
     → StopsBy (λ emitted. SessionAt ((text ++ done) ++ line) emitted s) (Appends start held)
     → StopsBy (λ emitted. SessionAt (text ++ (done ++ line)) emitted s) (Appends start held)
@@ -157,7 +157,7 @@ read_stops (Err x) stop start held text t f g is stops same = record {
   no_read_fault = λ none. same;
 }
 
--- ---- the input
+-- ---- the text that a session takes from its source
 
 pub stopped : (stop : Stop) (start held : Option (List ℕ)) (text : List ℕ) (t : SessionWriter) → StopsAt stop start held text t
     → StoppedAt stop start held text t
@@ -174,8 +174,8 @@ stops_reading (Ok u) stop left left_after start held text s is takes stops = abs
 stops_reading (Err x) stop left left_after start held text s is takes stops =
     subst (λ y. SessionReads (Err y) left left_after start held s) (sym is) (text, takes, stops)
 
--- if `text` and then `piece` were taken, together at most one byte more than a script may have, `TakesText` holds of
--- both together
+-- if `text` and then `piece` were taken from a source, and together have at most one byte more than a script may have,
+-- `TakesText` holds of `text ++ piece`
 pub more_taken : (left now after : Option (List ℕ)) (text piece : List ℕ) → Consumes left now text → Consumes now after piece
     → length (text ++ piece) ≤ 16777217 → TakesText left after (text ++ piece)
 more_taken left now after text piece before read few =
@@ -184,7 +184,7 @@ more_taken left now after text piece before read few =
       long = λ many. long_read 16777216 left after (text ++ piece) all (omega (arith, many, few));
     }
 
--- ---- closing
+-- ---- closing the run of a session
 
 tells_close : (text emitted : List ℕ) (t : SessionWriter) → TellsPart text emitted t → CanClose t.run
 tells_close text emitted t p = can_close t.is_over t.run p.front emitted p.has
@@ -208,7 +208,7 @@ reads_close (Ok u) left left_after start held s reads =
     can_close s.session_writer.is_over s.session_writer.run p.0 goes.emitted p.3
 reads_close (Err stop) left left_after start held s reads = stops_close stop start held reads.0 s.session_writer reads.2
 
--- ---- the answers
+-- ---- the output of a session that stopped
 
 part_emitted : (text emitted : List ℕ) (t : SessionWriter) → Closes t.run → TellsPart text emitted t → EmittedPart text emitted
 part_emitted text emitted t closes p = record {
@@ -281,7 +281,7 @@ module _ (left left_after start held : Option (List ℕ)) (t : SessionWriter) (c
     written = s.written;
   }
 
--- ---- the end of the input
+-- ---- a session at the end of its input
 
 -- a text that ends with an incomplete line is no script
 bare_part : (next : Awaited) (rest : List ℕ) (s : Script) → goes_from next (rest ∷ []) ≡ Ok s → ⊥
@@ -349,7 +349,8 @@ taken_all left left_after text read few = record {
 module _ (left left_after start held : Option (List ℕ)) (s : Session) (closes : Closes s.session_writer.run) (text : List ℕ)
     (read : WasRead 16777216 left left_after text) (few : length text ≤ 16777217)
     (goes : SessionGoes (Ok tt) start held text s) where
-  -- after the whole input, which is a script or has a fault, the session ends as `SessionEnds` states
+  -- if `result` is right for the whole input `text` (a script, or a text with a first fault), the session ends as
+  -- `SessionEnds` states
   pub finish_ends : (result : Result (Unit {0}) Stop) → Finishes text result
       → SessionEnds result left left_after start held
   finish_ends (Ok u) found =

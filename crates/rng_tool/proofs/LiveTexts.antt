@@ -26,14 +26,14 @@ no_feed_byte b line clean is =
 part_after : (b : ℕ) (line : List ℕ) → IsPart (b ∷ line) → IsPart line
 part_after b line clean = All-tail (λ x. (x == 10) ≡ false) b line clean
 
--- a text without a line feed has no whole lines
+-- if `text` has no line feed, it has no whole line
 pub no_feed : (text front rest : List ℕ) → IsPart text → text ≡ front ++ 10 ∷ rest → ⊥
 no_feed [] front rest clean is = absurd (omega (arith, ap length is, length-append front (10 ∷ rest)))
 no_feed (b ∷ text) [] rest clean is = no_feed_byte b text clean (let one : b ≡ 10 = cc in one)
 no_feed (b ∷ text) (x ∷ front) rest clean is =
     no_feed text front rest (part_after b text clean) (let tails : text ≡ front ++ 10 ∷ rest = cc in tails)
 
--- if whole lines are at the front of a text, they begin with the text's first line
+-- if whole lines are at the front of a text whose first line is `line`, these whole lines begin with `line`
 pub first_feed : (line more front rest : List ℕ) → IsPart line → line ++ 10 ∷ more ≡ front ++ 10 ∷ rest
     → (mid : List ℕ) × (front ++ 10 ∷ [] ≡ line ++ 10 ∷ mid)
 first_feed [] more [] rest clean is = ([], refl)
@@ -45,7 +45,7 @@ first_feed (b ∷ line) more (x ∷ front) rest clean is =
     (let tails : line ++ 10 ∷ more ≡ front ++ 10 ∷ rest = cc in tails) in
     (found.0, ap (λ t. x ∷ t) found.1 ∙ ap (λ c. c ∷ (line ++ 10 ∷ found.0)) (let one : x ≡ b = cc in one))
 
--- if only a part of a line follows a text, all whole lines at the front are in the text
+-- if `more`, which follows `text`, has no line feed, all whole lines at the front of `text ++ more` are in `text`
 pub fed_before : (text more front rest : List ℕ) → IsPart more → text ++ more ≡ front ++ 10 ∷ rest
     → (left : List ℕ) × (text ≡ front ++ 10 ∷ left)
 fed_before [] more front rest clean is = absurd (no_feed more front rest clean is)
@@ -54,8 +54,7 @@ fed_before (x ∷ text) more (y ∷ front) rest clean is =
     let found = fed_before text more front rest clean (let tails : text ++ more ≡ front ++ 10 ∷ rest = cc in tails) in
     (found.0, ap (λ t. x ∷ t) found.1 ∙ ap (λ b. b ∷ (front ++ 10 ∷ found.0)) (let one : x ≡ y = cc in one))
 
--- suppose that a line follows a text; then whole lines at the front are all in the text, or contain the text and the
--- line
+-- if `line` follows `text`, whole lines at the front are all in `text`, or contain all of `text` and `line`
 pub fed_around : (text line more front rest : List ℕ) → IsPart line
     → text ++ (line ++ 10 ∷ more) ≡ front ++ 10 ∷ rest
     → ((left : List ℕ) × (text ≡ front ++ 10 ∷ left)) ⊎ ((mid : List ℕ) × (front ++ 10 ∷ [] ≡ text ++ (line ++ 10 ∷ mid)))
@@ -70,14 +69,14 @@ fed_around (x ∷ text) line more (y ∷ front) rest clean is =
           inr (found.0, ap (λ t. y ∷ t) found.1 ∙ ap (λ b. b ∷ (text ++ (line ++ 10 ∷ found.0))) (sym same))
     ]
 
--- ---- a text with more text after it
+-- ---- a text with a line, and more text after the line
 
--- a text with a line and more text after it is the same, however the three are grouped
+-- `text`, then `line` with its line feed, and then `more` are the same text, however the three are grouped
 pub line_and_more : (text line more : List ℕ) → lined_up text line ++ more ≡ text ++ (line ++ 10 ∷ more)
 line_and_more text line more =
     append_assoc text (line ++ 10 ∷ []) more ∙ ap (λ t. text ++ t) (append_assoc line (10 ∷ []) more)
 
--- a text `front ++ rest` with `line` after it is `front` with the line `rest ++ line` after it
+-- if `text` is `front ++ rest`, then `text` with `line` after it is `front` with the line `rest ++ line` after it
 pub line_in_rest : (text front rest line : List ℕ) → text ≡ front ++ rest
     → lined_up text line ≡ lined_up front (rest ++ line)
 line_in_rest text front rest line is =
@@ -87,14 +86,14 @@ line_in_rest text front rest line is =
 pub more_in_rest : (text front rest more : List ℕ) → text ≡ front ++ rest → text ++ more ≡ front ++ (rest ++ more)
 more_in_rest text front rest more is = ap (λ t. t ++ more) is ∙ append_assoc front rest more
 
--- ---- texts that cannot be followed by events
+-- ---- texts that do not begin with whole lines that events may follow
 
 pub unopened_more : (text more : List ℕ) → IsPart more → IsUnopened text → IsUnopened (text ++ more)
 unopened_more text more clean unopened = λ front rest is goes.
     unopened front (fed_before text more front rest clean is).0 (fed_before text more front rest clean is).1 goes
 
--- if `text` is unopened, and events may follow no text that begins with `text` and `line`, then `text` and `line` are
--- unopened with any text after them
+-- let `text` be unopened (it does not begin with whole lines that events may follow). If events may follow no text that
+-- begins with `text` and `line`, then `text`, `line` and any text after them are together unopened
 pub unopened_line : (text line more : List ℕ) → IsPart line → IsUnopened text
     → ((mid : List ℕ) → GoesOn (text ++ (line ++ 10 ∷ mid)) → ⊥) → IsUnopened (text ++ (line ++ 10 ∷ more))
 unopened_line text line more clean unopened none = λ front rest is goes.

@@ -1,4 +1,4 @@
--- A transcript has at most one verdict, and the line of a load states it.
+-- A transcript has at most one verdict (lawful, or the clause that fails first), and the line of a load states it.
 use Rattle.std.proofs.Common.{ℕ, ◌≡◌, List, length, ap, subst, ◌∙◌}
 use Rattle.std.specs.List.{sum_by}
 use Rattle.key_names.specs.Transcripts.SeenLine.{SeenLine, bytes_shown}

@@ -12,7 +12,7 @@ use Rattle.caller_run.specs.Laws.{LawfulRuns}
 use Rattle.transcript_check.specs.Judged.{IsSound}
 use Rattle.transcript_check.proofs.Sound.{lawful_is_sound}
 
--- each line of a caller has the caller's number
+-- if `lines` fit the events of caller `c`, each of them has the number `c` as its caller
 own_lines : (c n : ℕ) (events : List Event) (lines : List SeenLine) → LinesFit c n events lines
     → AllByRecursion (λ line. line.caller ≡ c) lines
 own_lines c n [] [] fit = absurd fit

@@ -34,7 +34,7 @@ length-shown_lines kept steps (line ∷ lines) within = omega (
   length-shown_lines kept steps lines within.1,
 )
 
--- the lengths of a caller's data add up to the number of bytes that its lines show
+-- the lengths of the data in one caller's lines add up to the number of bytes that these lines show
 pub sum_of_data : (kept : List ℕ) (steps : List Step) (raw : List Line) (lines : List SeenLine)
     → seen_lines kept steps raw ≡ lines → All (LineWithin (length kept) (length steps)) raw
     → sum_by (λ line. data_len line.shown) raw ≡ length (bytes_shown lines)

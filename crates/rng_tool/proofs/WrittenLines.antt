@@ -1,4 +1,4 @@
--- The transcript of a script's only caller, as far as it was written.
+-- The transcript of a script's only caller, up to the line that was written last.
 use Rattle.std.proofs.Common.{◌≡◌, ℕ, ◌+◌, ◌≤◌, List, [], ◌∷◌, ◌++◌, drop, get_or, length, refl, sym, ap, ◌∙◌, subst, append_assoc, append-nil, arith}
 use Rattle.std.specs.Prelude.{Option, Result, Ok, Err, OnOk, OnErr, is_ok, true, false, ◌<◌, codes}
 use Rattle.std.specs.Io.KnownBytes.{Appends}
@@ -32,7 +32,7 @@ Known = Option (List ℕ)
 abbrev pub text_so_far : List SeenLine → List ℕ
 text_so_far lines = codes "rngtranscript 1\n" ++ text_of lines
 
--- if no call failed, the text was put; in any case a prefix of the text was put
+-- if no put to the sink failed, all of `text` was put; in any case a prefix of `text` was put
 pub record Wrote (written : Result (Unit {0}) Failed) (held held_now : Known) (faults faults_now : ℕ) (text : List ℕ)
     : Type 0 where
   pub whole : OnOk written (Appends held held_now text)
@@ -40,21 +40,21 @@ pub record Wrote (written : Result (Unit {0}) Failed) (held held_now : Known) (f
   pub cause : OnErr written (Rose faults faults_now)
   pub not_counted : OnOk written (faults_now ≡ faults)
 
--- ---- more text
+-- ---- putting more text
 
 -- a prefix of a text is also a prefix of a longer text
 pub prefix_longer : (a b : Known) (text more : List ℕ) → AppendsPrefix a b text → AppendsPrefix a b (text ++ more)
 prefix_longer a b text more p =
     (p.0, omega (arith, p.1, length-append text more), subst (Appends a b) (sym (take-append-le p.0 text more p.1)) p.2)
 
--- if a text was put, and then a prefix of `more`, a prefix of `text ++ more` was put
+-- if the sink took `text` and then a prefix of `more`, it took a prefix of `text ++ more`
 pub prefix_after : (a b c : Known) (text more : List ℕ) → Appends a b text → AppendsPrefix b c more
     → AppendsPrefix a c (text ++ more)
 prefix_after a b c text more first rest =
     breaks_off a b c (text ++ more) more more [] (record { front = text; whole = refl; appends = first })
     (sym (append-nil more)) rest
 
--- if no call had failed, one more call puts `more`, or fails after a prefix of it
+-- if no put had failed (`w`), the next put appends all of `more`, or fails after a prefix of it
 pub wrote_more : (w v : Result (Unit {0}) Failed) (a b c : Known) (f g h : ℕ) (text more : List ℕ) → is_ok w ≡ true
     → Wrote w a b f g text → OnOk v (Appends b c more) → AppendsPrefix b c more → OnErr v (Rose g h) → OnOk v (h ≡ g)
     → Wrote v a c f h (text ++ more)
@@ -72,7 +72,7 @@ wrote_more (Ok u) (Err e) a b c f g h text more ok k whole prefix cause same = r
   not_counted = tt;
 }
 
--- if a call had failed, the bytes that were put are also a prefix of `text ++ more`
+-- if an earlier put failed (`w`), the bytes that were put are a prefix of `text`, and so also of `text ++ more`
 pub wrote_no_more : (w : Result (Unit {0}) Failed) (a b : Known) (f g : ℕ) (text more : List ℕ) → is_ok w ≡ false
     → Wrote w a b f g text → Wrote w a b f g (text ++ more)
 wrote_no_more (Ok u) a b f g text more failed k = cc
@@ -95,13 +95,14 @@ module _ (script : Script) (a b : Known) (f g : ℕ) (text : List ℕ) (run : Ru
   was_cut (Ok u) k = tt
   was_cut (Err e) k = (text, run, k.prefix)
 
-  -- if the result v is a failure, a prefix of the output of a run was put, whatever w is
+  -- let `text` be the output of a run. If the result `v` is a failure, a prefix of `text` was put, whatever the result
+  -- `w` is
   pub was_cut_before : (w v : Result (Unit {0}) Failed) → Wrote w a b f g text
       → OnErr v ((text : List ℕ) × RunOf script text × AppendsPrefix a b text)
   was_cut_before w (Ok u) k = tt
   was_cut_before w (Err e) k = (text, run, k.prefix)
 
--- ---- the events
+-- ---- the events of the run
 
 module _ {script : Script} {run : LoneRun} {lines : List SeenLine} (events : List Event) (i : ℕ) where
   pub next_event : (event : Event) → i < length events → event ≡ get_or events i event
@@ -113,7 +114,7 @@ module _ {script : Script} {run : LoneRun} {lines : List SeenLine} (events : Lis
   pub no_event : length events ≤ i → IsGoing script (drop i events) run lines → IsGoing script [] run lines
   no_event last = subst (λ (rest : List Event). IsGoing script rest run lines) (drop_all i events last)
 
--- ---- the lines
+-- ---- the text of the lines so far
 
 pub next_line : (lines : List SeenLine) (line : SeenLine) →
     text_so_far (lines ++ line ∷ []) ≡ text_so_far lines ++ whole_line line

@@ -13,7 +13,7 @@ use Rattle.rng_tool.specs.declared.command.Command.{Command}
 use Rattle.rng_tool.specs.declared.judge.Judge.{Judge}
 use Rattle.rng_tool.specs.declared.command.Command.TheVariants.{Run, Live, Judge as Judges, Load, Draw, Vfork, Feed}
 
--- the words are a form of the command
+-- the words are those that name this command
 abbrev pub Asks : {A : Type 0} → List (String A) → Command → Type 0
 Asks words Run = IsRun words
 Asks words Live = IsLive words

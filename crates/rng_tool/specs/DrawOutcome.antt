@@ -1,4 +1,4 @@
--- The outcome of draws.
+-- The right output of the command `draw`, and how the command ends.
 use Rattle.std.specs.Prelude.{ℕ, ◌≡◌, ◌<◌, ◌≤◌, ◌^◌, ◌++◌, List, [], ◌∷◌, Option, Some, None, String, string_bytes, codes, decimal, map}
 use Rattle.std.specs.List.{flat_map}
 use Rattle.draw_below.specs.TableDraws.{AreTableDraws}
@@ -12,15 +12,15 @@ pub record AskDraw (texts : List (List ℕ)) (bound count : ℕ) : Type 0 where
   pub bound_fits : bound < 2 ^ 32
   pub count_fits : (1 ≤ count) × (count ≤ 1000)
 
--- the numbers of draws are within the limits
+-- the number of draws is from 1 to 1,000
 pub record IsSmallDraw (draw : DrawRequest) : Type 0 where
   pub count : (1 ≤ draw.count) × (draw.count ≤ 1000)
 
--- the words are `draw` with these numbers
+-- the words of the command line are `draw C K` with C = `bound` and K = `count`, which are in their ranges
 abbrev pub IsDraw : {A : Type 0} → List (String A) → ℕ → ℕ → Type 0
 IsDraw words bound count = AskDraw (map string_bytes words) bound count
 
--- the line of a draw: its answer, or `spent` if its words were all rejected
+-- the line of one draw: the number drawn, or `spent` if all of its words were rejected
 abbrev pub draw_line : Option ℕ → List ℕ
 draw_line (Some answer) = decimal answer ++ 10 ∷ []
 draw_line None = codes "spent" ++ 10 ∷ []
@@ -35,6 +35,6 @@ pub record DrawOf (bound count : ℕ) (output : List ℕ) : Type 0 where
   pub drawn : AreTableDraws bound count draws
   pub emitted : output ≡ draw_text draws
 
--- how draws end: the status, and the content of the sink
+-- how the command `draw` ends: its status, and the content of the sink before and after
 abbrev pub DrawEnds : ℕ → ℕ → Status → Option (List ℕ) → Option (List ℕ) → Type 0
 DrawEnds bound count = EndsWith (DrawOf bound count)

@@ -1,4 +1,4 @@
--- The outcome of feeders.
+-- The right output of the command `feed`, and how the command ends.
 use Rattle.std.specs.Prelude.{ℕ, ◌≡◌, ◌<◌, ◌≤◌, ◌^◌, ◌++◌, List, [], ◌∷◌, Option, String, string_bytes, codes, decimal, map}
 use Rattle.irq_feed.specs.declared.table_feed.FeedSums.{FeedSums}
 use Rattle.irq_feed.specs.TableFeed.{IsFed}
@@ -13,12 +13,12 @@ pub record AskFeed (texts : List (List ℕ)) (start feeders samples : ℕ) : Typ
   pub feeders_fit : (1 ≤ feeders) × (feeders ≤ 16)
   pub samples_fit : (1 ≤ samples) × (samples ≤ 10000)
 
--- the numbers of feeders and samples are within the limits
+-- there are 1 to 16 feeders, with 1 to 10,000 samples each
 pub record IsSmallFeed (feed : Feed) : Type 0 where
   pub feeders : (1 ≤ feed.feeders) × (feed.feeders ≤ 16)
   pub samples : (1 ≤ feed.samples) × (feed.samples ≤ 10000)
 
--- the words are `feed` with these numbers
+-- the words of the command line are `feed START FEEDERS SAMPLES` with these numbers, which are in their ranges
 abbrev pub IsFeed : {A : Type 0} → List (String A) → ℕ → ℕ → ℕ → Type 0
 IsFeed words start feeders samples = AskFeed (map string_bytes words) start feeders samples
 
@@ -27,12 +27,12 @@ feed_line feeders sums =
     codes "feeders " ++ decimal feeders ++ codes " samples " ++ decimal sums.samples ++ codes " dumps "
     ++ decimal sums.dumps ++ codes " bits " ++ decimal sums.bits ++ codes "\n"
 
--- the output is the line with the sums of this many feeders with this many samples each, on a new table
+-- the output is the line with the sums of a run on a new table, with `feeders` feeders of `samples` samples each
 pub record FeedOf (start feeders samples : ℕ) (output : List ℕ) : Type 0 where
   pub sums : FeedSums
   pub fed : IsFed start feeders samples sums
   pub emitted : output ≡ feed_line feeders sums
 
--- how feeders end: the status, and the content of the sink
+-- how the command `feed` ends: its status, and the content of the sink before and after
 abbrev pub FeedEnds : ℕ → ℕ → ℕ → Status → Option (List ℕ) → Option (List ℕ) → Type 0
 FeedEnds start feeders samples = EndsWith (FeedOf start feeders samples)

@@ -14,12 +14,12 @@ use Rattle.tool_ends.specs.declared.status.Status.TheVariants.{Done, No, Usage, 
 use Rattle.rng_tool.specs.declared.judge.Judge.{Judge}
 use Rattle.rng_tool.specs.declared.judge.Judge.TheVariants.{Check, Replay}
 
--- ---- answers about a transcript
+-- ---- the right outputs for a script and a transcript
 
 abbrev pub yes_line : List ℕ
 yes_line = codes "yes" ++ 10 ∷ []
 
--- the output is the line of a check that finds no fault
+-- the transcript `t` is lawful for the script, and the output is the line `yes`
 pub record SaysYes (script : Script) (t : List (List SeenLine)) (output : List ℕ) : Type 0 where
   pub sound : IsSound script t
   pub line : output ≡ yes_line
@@ -34,12 +34,13 @@ abbrev pub Says : Judge → Script → List (List SeenLine) → List ℕ → Typ
 Says Check = SaysYes
 Says Replay = GivesBack
 
--- the clause is the first that fails
+-- the clause is the first that fails: for `check` among all clauses, for `replay` among those on lines, marks, forms
+-- and looks
 abbrev pub Fails : Judge → Script → List (List SeenLine) → Clause → Type 0
 Fails Check = FirstFails
 Fails Replay = StepsFail
 
--- ---- for an input
+-- ---- the right outputs for an input
 
 -- the input is a script with a transcript after it, and the output is right for this script and this transcript
 pub record JudgeAnswer (judge : Judge) (input output : List ℕ) : Type 0 where
@@ -48,8 +49,8 @@ pub record JudgeAnswer (judge : Judge) (input output : List ℕ) : Type 0 where
   pub pair : IsPair input script lines
   pub says : Says judge script lines output
 
--- the number is 1, and the text is not that of a transcript; or the text is that of a transcript, and the number is
--- that of the failing clause
+-- the number is 1, and `text` is not the text of a transcript; or `text` is that of a transcript, and the number is
+-- that of the clause that fails first
 abbrev pub IsClause : Judge → Script → List ℕ → ℕ → Type 0
 IsClause judge script text number =
     (number ≡ 1) × IsNoTranscript text
@@ -64,7 +65,7 @@ pub record JudgeVerdict (judge : Judge) (input output : List ℕ) : Type 0 where
   pub clause : IsClause judge script (following input) number
   pub line : output ≡ no_line number
 
--- the output and the status for a transcript
+-- the right status and output for a script and a transcript `t`
 abbrev pub SaidOf : Judge → Script → List (List SeenLine) → Status → List ℕ → Type 0
 SaidOf judge script t Done output = Says judge script t output
 SaidOf judge script t No output = (clause : Clause) × Fails judge script t clause × (output ≡ no_line (clause_number clause))
@@ -74,7 +75,7 @@ SaidOf judge script t ReadFault output = ⊥
 SaidOf judge script t WriteFault output = ⊥
 SaidOf judge script t NoMemory output = ⊥
 
--- the output and the status for an input
+-- the right status and output for an input
 abbrev pub JudgeCalls : Judge → List ℕ → Status → List ℕ → Type 0
 JudgeCalls judge input Done output = JudgeAnswer judge input output
 JudgeCalls judge input No output = JudgeVerdict judge input output
@@ -84,11 +85,12 @@ JudgeCalls judge input ReadFault output = ⊥
 JudgeCalls judge input WriteFault output = ⊥
 JudgeCalls judge input NoMemory output = ⊥
 
--- how the command ends: its status, the rest of the source, and the content of the sink
+-- how the command ends: its status, the rest of the source before and after, and the content of the sink before and
+-- after
 abbrev pub JudgeEnds : Judge → Status → Option (List ℕ) → Option (List ℕ) → Option (List ℕ) → Option (List ℕ) → Type 0
 JudgeEnds judge = ReadsEnds most_input (JudgeCalls judge)
 
--- ---- the words
+-- ---- the words that name the commands
 
 abbrev pub word_of : Judge → List ℕ
 word_of Check = codes "check"

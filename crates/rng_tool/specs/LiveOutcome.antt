@@ -18,11 +18,11 @@ use Rattle.tool_ends.specs.declared.status.Status.{Status}
 use Rattle.tool_ends.specs.declared.status.Status.TheVariants.{Done, No, Usage, ReadFault, WriteFault, Refused, NoMemory}
 use Rattle.rng_tool.specs.Outcome.{RunOf}
 
--- ---- the output for a part of the script
+-- ---- the output for a part of the script's text
 
--- With a line `end` after it, the text is a script of one caller, who forks nobody and acts inside no call. The output
--- has the first line of a transcript, and the lines of the text's events. With one last line, for the end of the
--- caller, these lines are a sound transcript of that script.
+-- With a line `end` after it, `text` is a script of one caller, who forks nobody and acts inside no vgetrandom call.
+-- The output has a transcript's first line and the line of each event in `text`. With one more line, for the caller's
+-- end, these lines are a sound transcript of that script.
 pub record EmittedSoFar (text output : List ℕ) : Type 0 where
   pub script : Script
   pub is_script : IsScript script (text ++ end_line)
@@ -32,43 +32,43 @@ pub record EmittedSoFar (text output : List ℕ) : Type 0 where
   pub sound : IsSound script ((lines ++ last ∷ []) ∷ [])
   pub emitted : output ≡ lined (codes "rngtranscript 1" ∷ map line_text lines)
 
--- the text is a script of one caller, who forks nobody and acts inside no call; the output is that of a run of this
--- script
+-- `text` is a script of one caller, who forks nobody and acts inside no vgetrandom call; the output is that of a run of
+-- this script
 pub record EmittedWhole (text output : List ℕ) : Type 0 where
   pub script : Script
   pub is_script : IsScript script text
   pub one : IsEmittedByOne script
   pub run : RunOf script output
 
--- the output is empty, or has the lines of the events in some prefix of the text
+-- the output is empty, or it has the lines of the events in a prefix of `text`
 pub record EmittedPart (text output : List ℕ) : Type 0 where
   pub front : List ℕ
   pub rest : List ℕ
   pub parts : text ≡ front ++ rest
   pub emitted : (output ≡ []) ⊎ EmittedSoFar front output ⊎ EmittedWhole front output
 
--- ---- the output for all of the script that was read
+-- ---- the output for all of the script's text that was read
 
--- the text begins some script of one caller, who forks nobody and acts inside no call
+-- `text` is the beginning of some script of one caller, who forks nobody and acts inside no vgetrandom call
 pub record BeginsScript (text : List ℕ) : Type 0 where
   pub script : Script
   pub more : List ℕ
   pub is_script : IsScript script (text ++ more)
   pub one : IsEmittedByOne script
 
--- events may follow these lines, and then the line `end`
+-- events may follow the lines in `text`, and the line `end` has room after these lines
 pub record GoesOn (text : List ℕ) : Type 0 where
   pub draft : Draft
   pub next : ℕ
   pub goes : GoesOnFrom text draft next
   pub room : length text + 4 ≤ most_script
 
--- the output is empty, and the text does not begin with whole lines that events may follow
+-- the output is empty, and `text` does not begin with whole lines that events may follow
 pub record EmittedNothing (text output : List ℕ) : Type 0 where
   pub nothing : output ≡ []
   pub unopened : (front rest : List ℕ) → text ≡ front ++ 10 ∷ rest → GoesOn (front ++ 10 ∷ []) → ⊥
 
--- the output has the lines of the events in a prefix of the text. If a whole line follows this prefix, no script of one
+-- the output has the lines of the events in a prefix of `text`. If a whole line follows this prefix, no script of one
 -- caller begins with the prefix and that line
 pub record EmittedFront (text output : List ℕ) : Type 0 where
   pub front : List ℕ
@@ -77,8 +77,7 @@ pub record EmittedFront (text output : List ℕ) : Type 0 where
   pub so_far : EmittedSoFar front output
   pub stops : (line more : List ℕ) → rest ≡ line ++ 10 ∷ more → BeginsScript (front ++ line ++ 10 ∷ []) → ⊥
 
--- a prefix of the text is a whole script, and the output is that of a run of this script; other text may follow the
--- prefix
+-- a prefix of `text` is a whole script, and the output is that of a run of this script; more text may follow the prefix
 pub record EmittedScript (text output : List ℕ) : Type 0 where
   pub front : List ℕ
   pub rest : List ℕ
@@ -89,22 +88,22 @@ pub record EmittedScript (text output : List ℕ) : Type 0 where
 abbrev pub EmittedAll : List ℕ → List ℕ → Type 0
 EmittedAll text output = EmittedNothing text output ⊎ EmittedFront text output ⊎ EmittedScript text output
 
--- ---- refusals
+-- ---- the lines that refuse a script
 
--- the text has a prefix such that every text that begins with this prefix has this first fault
+-- `text` has a prefix such that every text that begins with this prefix has the first fault `fault`
 pub record FailsInside (text : List ℕ) (fault : ScriptFault) : Type 0 where
   pub front : List ℕ
   pub rest : List ℕ
   pub parts : text ≡ front ++ rest
   pub fails : FailsWith front fault
 
--- the text is the whole input, or the first part of a longer input: one byte more than a script may have. The fault is
--- the first fault of the text
+-- `text` is the whole input, or the first part of a longer input: one byte more than a script may have. Its first fault
+-- is `fault`
 pub record FailsAtEnd (left left_after : Option (List ℕ)) (text : List ℕ) (fault : ScriptFault) : Type 0 where
   pub read : WasRead most_script left left_after text
   pub first : first_fault text ≡ Some fault
 
--- the line of this number has no fault, but is a fork, or an act inside a call
+-- the line with this number has no fault, but is a fork, or an act inside a vgetrandom call
 pub record IsNotAlone (text : List ℕ) (number : ℕ) : Type 0 where
   pub front : List ℕ
   pub rest : List ℕ
@@ -114,17 +113,17 @@ pub record IsNotAlone (text : List ℕ) (number : ℕ) : Type 0 where
   pub goes : GoesOnFrom front (with_event draft event) (number + 1)
   pub not_once : IsEmittedOnce event → ⊥
 
--- the refusal of a line that is a fork, or an act inside a call: its kind is 13
+-- the line that refuses a fork, or an act inside a vgetrandom call, at this line of the script: its kind is 13
 abbrev pub not_alone_line : ℕ → List ℕ
 not_alone_line number = lined (spaced (codes "refused" ∷ decimal number ∷ codes "13" ∷ []) ∷ [])
 
--- the line refuses the text: for a fault, or for a fork or an act
+-- `line` refuses `text`: for a fault, or for a fork or an act
 abbrev pub RefusesBy : Option (List ℕ) → Option (List ℕ) → List ℕ → List ℕ → Type 0
 RefusesBy left left_after text line =
     ((fault : ScriptFault) × (FailsInside text fault ⊎ FailsAtEnd left left_after text fault) × (line ≡ refusal_line fault))
     ⊎ ((number : ℕ) × IsNotAlone text number × (line ≡ not_alone_line number))
 
--- the output has the line of each event in the text, and then the line of a refusal
+-- the output has the line of each event in `text`, and then the line of a refusal
 pub record EmittedRefusal (left left_after : Option (List ℕ)) (text output : List ℕ) : Type 0 where
   pub emitted : List ℕ
   pub line : List ℕ
@@ -132,9 +131,9 @@ pub record EmittedRefusal (left left_after : Option (List ℕ)) (text output : L
   pub refusal : RefusesBy left left_after text line
   pub output_is : output ≡ emitted ++ line
 
--- ---- the ends
+-- ---- how a session ends
 
--- this text was taken from the source; it has at most one byte more than a script may have
+-- `text` was taken from the source, and has at most one byte more than a script may have
 pub record WasTaken (left left_after : Option (List ℕ)) (text : List ℕ) : Type 0 where
   pub read : Consumes left left_after text
   pub few : length text ≤ most_script + 1
@@ -164,7 +163,7 @@ pub record EmittedPrefix (left left_after held held_after : Option (List ℕ)) :
   pub is : EmittedPart text output ⊎ EmittedRefusal left left_after text output
   pub written : AppendsPrefix held held_after output
 
--- the status of a session, the rest of the source, and the content of the sink
+-- how a session ends: its status, the rest of the source before and after, and the content of the sink before and after
 abbrev pub LiveEnds : Status → Option (List ℕ) → Option (List ℕ) → Option (List ℕ) → Option (List ℕ) → Type 0
 LiveEnds Done left left_after held held_after = EmittedToEnd left left_after held held_after
 LiveEnds Refused left left_after held held_after =

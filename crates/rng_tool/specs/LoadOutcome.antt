@@ -1,4 +1,4 @@
--- The outcome of a load.
+-- The right output of the command `load`, and how the command ends.
 use Rattle.std.specs.Prelude.{ℕ, ◌≡◌, ◌<◌, ◌≤◌, ◌^◌, List, [], ◌∷◌, Option, ◌++◌, String, string_bytes, codes, decimal, length, map, sum_by}
 use Rattle.key_names.specs.declared.lines.Data.{Data}
 use Rattle.key_names.specs.declared.lines.Data.TheVariants.{Bytes}
@@ -21,12 +21,12 @@ pub record AskLoad (texts : List (List ℕ)) (start callers events : ℕ) : Type
   pub callers_fit : (1 ≤ callers) × (callers ≤ 64)
   pub events_fit : (1 ≤ events) × (events ≤ 1000)
 
--- the numbers of a load are within the limits
+-- there are 1 to 64 callers, with 1 to 1,000 events each
 pub record IsSmall (load : LoadRequest) : Type 0 where
   pub callers : (1 ≤ load.callers) × (load.callers ≤ 64)
   pub events : (1 ≤ load.events) × (load.events ≤ 1000)
 
--- the words are `load` with these numbers
+-- the words of the command line are `load START CALLERS EVENTS` with these numbers, which are in their ranges
 abbrev pub IsLoad : {A : Type 0} → List (String A) → ℕ → ℕ → ℕ → Type 0
 IsLoad words start callers events = AskLoad (map string_bytes words) start callers events
 
@@ -53,6 +53,6 @@ pub record LoadOf (start callers events : ℕ) (output : List ℕ) : Type 0 wher
   pub emitted : output ≡ load_line callers (sum_by length (load_script start callers events).callers)
       (length (bytes_shown (all_lines lines))) Yes
 
--- how a load ends: the status, and the content of the sink
+-- how the command `load` ends: its status, and the content of the sink before and after
 abbrev pub LoadEnds : ℕ → ℕ → ℕ → Status → Option (List ℕ) → Option (List ℕ) → Type 0
 LoadEnds start callers events = EndsWith (LoadOf start callers events)

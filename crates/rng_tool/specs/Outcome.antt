@@ -1,4 +1,4 @@
--- The outcome of a run of the program, for each way to end.
+-- The right output of a run of the program, for each status.
 use Rattle.std.specs.Prelude.{ℕ, ◌≡◌, List, [], ◌∷◌, Option, Some, String, string_bytes, codes, map}
 use Rattle.key_names.specs.Transcripts.SeenLine.{SeenLine}
 use Rattle.key_names.specs.Texts.ScriptFaults.{first_fault}
@@ -17,7 +17,7 @@ pub record RunOf (script : Script) (output : List ℕ) : Type 0 where
   pub run : IsSound script lines
   pub written : IsTranscriptText output lines
 
--- the input has a first fault, and the output is its line
+-- the input has a first fault, and the output is the line that refuses it
 pub record IsRefusal (input output : List ℕ) : Type 0 where
   pub fault : ScriptFault
   pub first : first_fault input ≡ Some fault
@@ -29,7 +29,7 @@ pub record CallsForRun (input output : List ℕ) : Type 0 where
   pub is_script : IsScript script input
   pub run : RunOf script output
 
--- the output for the input of a run, and its status
+-- the right output of the command `run` for an input, given the status
 abbrev pub CallsFor : List ℕ → Status → List ℕ → Type 0
 CallsFor input Done output = CallsForRun input output
 CallsFor input Refused output = IsRefusal input output
@@ -39,7 +39,8 @@ CallsFor input ReadFault output = ⊥
 CallsFor input WriteFault output = ⊥
 CallsFor input NoMemory output = ⊥
 
--- the status of the command `run`, the rest of the source, and the content of the sink
+-- how the command `run` ends: its status, the rest of the source before and after, and the content of the sink before
+-- and after
 abbrev pub RunEnds : Status → Option (List ℕ) → Option (List ℕ) → Option (List ℕ) → Option (List ℕ) → Type 0
 RunEnds = ReadsEnds most_script CallsFor
 

@@ -1,4 +1,4 @@
--- The outcome of a fork inside a vgetrandom call.
+-- The right output of the command `vfork` (a fork inside a vgetrandom call), and how the command ends.
 use Rattle.std.specs.Prelude.{ℕ, ◌≡◌, ◌≤◌, ◌^◌, ◌++◌, List, [], ◌∷◌, Option, String, string_bytes, codes, decimal, map}
 use Rattle.hex.specs.Hex.{encode_lower}
 use Rattle.key_names.specs.declared.point.Point.{Point}
@@ -15,15 +15,16 @@ pub record AskVfork (texts : List (List ℕ)) (point : Point) (attempt : Turn) (
   pub spelt : texts ≡ codes "vfork" ∷ decimal (number_of point) ∷ decimal (turn_number attempt) ∷ decimal n ∷ []
   pub fits : (1 ≤ n) × (n ≤ 2 ^ 20)
 
--- the length of a fork's call is within the limits
+-- the length of the forked vgetrandom call is from 1 to 2^20 bytes
 pub record IsSmallVfork (vfork : Vfork) : Type 0 where
   pub fits : (1 ≤ vfork.len) × (vfork.len ≤ 2 ^ 20)
 
--- the words are `vfork` with these numbers
+-- the words of the command line are `vfork POINT ATTEMPT N` with the numbers of this point and attempt, and N = `n` in
+-- its range
 abbrev pub IsVfork : {A : Type 0} → List (String A) → Point → Turn → ℕ → Type 0
 IsVfork words point attempt n = AskVfork (map string_bytes words) point attempt n
 
--- the line of one end of a fork: its name, and its bytes in hex
+-- the line of the parent or of the child: its name, and the bytes that it gives out, in hex
 abbrev pub end_line : List ℕ → List ℕ → List ℕ
 end_line name bytes = name ++ (encode_lower bytes ++ 10 ∷ [])
 
@@ -37,6 +38,6 @@ pub record VforkOf (point : Point) (attempt : Turn) (n : ℕ) (output : List ℕ
   pub forked : AreForkedBytes attempt point n parent child
   pub emitted : output ≡ vfork_text parent child
 
--- how a fork ends: the status, and the content of the sink
+-- how the command `vfork` ends: its status, and the content of the sink before and after
 abbrev pub VforkEnds : Point → Turn → ℕ → Status → Option (List ℕ) → Option (List ℕ) → Type 0
 VforkEnds point attempt n = EndsWith (VforkOf point attempt n)

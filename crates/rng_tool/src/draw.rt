@@ -1,4 +1,4 @@
-//! Draws: their words, their run, and a line for each.
+//! The command `draw`: reads its words, draws the numbers, and writes a line for each.
 ghost use Rattle.std.specs.Prelude.{◌≡◌, ◌≤◌, ◌+◌, ◌++◌, ◌∷◌, [], ℕ, Some, IfOk, IfSome, length};
 ghost use Rattle.draw_below.specs.TableDraws.{ends_of};
 ghost use Rattle.rng_tool.specs.DrawOutcome.{AskDraw, DrawEnds, DrawOf, IsDraw, IsSmallDraw, draw_line, draw_text};
@@ -13,10 +13,10 @@ use std::sync::Wait;
 use tool_ends::numbers::number_in;
 use tool_ends::{Status, put_answer};
 
-/// The most bytes of the lines of a run: 11 for each answer, and 6 for the line `spent`.
+/// The most bytes that the lines of a run can have: 11 for each number drawn, and 6 for the line `spent`.
 const MOST_BYTES: usize = 11_006;
 
-/// The lines of draws.
+/// The lines of all draws of a run, as one text.
 type DrawText = ArrayString<MOST_BYTES>;
 
 /// How many numbers are drawn, and their bound. If the bound is 0, whole words are drawn.
@@ -26,7 +26,7 @@ pub(crate) struct DrawRequest {
     pub(crate) count: u32,
 }
 
-/// The draws that these three words name, if they name draws.
+/// The request that these three words make, if they are `draw C K`.
 fn draw_by(command: &str, bound: &str, count: &str) -> Option<DrawRequest>
     ensures found { IfSome result (λ draw.
         AskDraw (command.now ∷ bound.now ∷ count.now ∷ []) draw.bound draw.count) }
@@ -41,7 +41,7 @@ fn draw_by(command: &str, bound: &str, count: &str) -> Option<DrawRequest>
     Some(DrawRequest { bound, count })
 }
 
-/// The draws that the words name, if they name draws.
+/// The request that the words make, if they are `draw C K`.
 pub(crate) fn draw_of(words: &[String]) -> Option<DrawRequest>
     ensures found { IfSome result (λ draw. IsDraw words.now draw.bound draw.count) }
     ensures only { (bound count : ℕ) → IsDraw words.now bound count
@@ -53,7 +53,7 @@ pub(crate) fn draw_of(words: &[String]) -> Option<DrawRequest>
     }
 }
 
-// Adds the line of an answer.
+// Adds the line of a number that was drawn.
 fn add_answer(text: &mut DrawText, answer: u32)
     requires { length text.old.bytes + 11 ≤ 11006 }
     ensures text { text.new.bytes ≡ text.old.bytes ++ draw_line (Some answer) }
@@ -64,7 +64,7 @@ fn add_answer(text: &mut DrawText, answer: u32)
     text.push_str("\n");
 }
 
-// The lines of draws.
+// The lines of all draws, as one text.
 fn draw_text(drawn: &Drawn) -> DrawText
     ensures { result.bytes ≡ draw_text (ends_of drawn.now) }
 {
@@ -79,7 +79,7 @@ fn draw_text(drawn: &Drawn) -> DrawText
     text
 }
 
-// Makes draws, and returns their lines.
+// Draws the numbers on a new table, and returns their lines.
 fn lines_of<R: Wait>(rt: &R, alloc: Global, draw: DrawRequest) -> Result<DrawText, NoMemory>
     requires { IsSmallDraw draw }
     ensures { IfOk result (λ text. DrawOf draw.bound draw.count text.bytes) }
@@ -90,7 +90,7 @@ fn lines_of<R: Wait>(rt: &R, alloc: Global, draw: DrawRequest) -> Result<DrawTex
     Ok(draw_text(&drawn))
 }
 
-/// Makes draws on a new table, and writes a line for each.
+/// Draws the numbers on a new table, and writes a line for each.
 pub(crate) fn run_draw<R: Wait, K: Sink>(
     rt: &R,
     alloc: Global,

@@ -14,7 +14,7 @@ use transcript_text::{LineView, TextError, Transcript, read};
 /// The most bytes that the text of a transcript may have.
 const MOST_TEXT: usize = 2_147_483_648;
 
-/// The most bytes of data that are shown.
+/// The most bytes of a line's data that a message shows.
 const MOST_BYTES: usize = 32;
 
 const CLAUSES: [Clause; 6] = [

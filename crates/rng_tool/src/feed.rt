@@ -1,4 +1,4 @@
-//! Feeders: their words, their run, and the line that sums up the run.
+//! The command `feed`: reads its words, runs the feeders, and writes the line that sums up the run.
 ghost use Rattle.std.specs.Prelude.{◌≡◌, ◌∷◌, [], ℕ, Some, IfOk, IfSome};
 ghost use Rattle.irq_feed.specs.declared.table_feed.FeedSums.{FeedSums};
 ghost use Rattle.rng_tool.specs.FeedOutcome.{FeedEnds, FeedOf, IsFeed, IsSmallFeed, feed_line};
@@ -28,7 +28,7 @@ pub(crate) struct Feed {
     pub(crate) samples: u32,
 }
 
-/// The feeders that the words name, if they name feeders.
+/// The request that the words make, if they are `feed START FEEDERS SAMPLES`.
 pub(crate) fn feed_of(words: &[String]) -> Option<Feed>
     ensures found { IfSome result (λ feed. IsFeed words.now feed.start feed.feeders feed.samples) }
     ensures only { (start feeders samples : ℕ) → IsFeed words.now start feeders samples
@@ -48,7 +48,7 @@ pub(crate) fn feed_of(words: &[String]) -> Option<Feed>
     })
 }
 
-// The line with these sums.
+// The line that sums up a run: the number of feeders, and the sums of samples, dumps and bits.
 fn feed_line(feeders: u32, sums: &FeedSums) -> ShortLine
     ensures { result.bytes ≡ feed_line feeders sums.now }
 {
@@ -61,7 +61,7 @@ fn feed_line(feeders: u32, sums: &FeedSums) -> ShortLine
     line
 }
 
-// Runs feeders, and returns their line. It allocates nothing after the run.
+// Runs the feeders on a new table, and returns the line that sums up the run. It allocates nothing after the run.
 fn summary<R: Threads + Wait + Sync, G: Gate>(
     rt: &R,
     alloc: Global,
@@ -75,7 +75,7 @@ fn summary<R: Threads + Wait + Sync, G: Gate>(
     Ok(feed_line(feed.feeders, &sums))
 }
 
-/// Runs feeders on a new table, and writes the line that sums up the run.
+/// Runs the feeders on a new table, and writes the line that sums up the run.
 pub(crate) fn run_feed<R: Threads + Wait + Sync, K: Sink, G: Gate>(
     rt: &R,
     alloc: Global,

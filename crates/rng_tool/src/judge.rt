@@ -33,7 +33,7 @@ pub(crate) enum Judge {
     Replay,
 }
 
-// The command that one word names.
+// The command that a word names, if the word is `check` or `replay`.
 fn judge_by(word: &str) -> Option<Judge>
     ensures found { IfSome result (λ judge. word.now ≡ word_of judge) }
     ensures only { (judge : Judge) → word.now ≡ word_of judge → result ≡ Some judge }

@@ -1,4 +1,5 @@
-//! A load: its words, its run, and the line that sums up the run.
+//! The command `load`: reads its words, runs a script, checks the transcript, and writes the line that sums up the
+//! load.
 ghost use Rattle.std.specs.Prelude.{◌≡◌, ◌<◌, ◌≤◌, ◌*◌, ◌^◌, ◌∷◌, [], ℕ, Some, IfOk, IfSome, decimal, length, sum_by};
 ghost use Rattle.key_names.specs.Texts.ScriptGrammar.{WellFormed};
 ghost use Rattle.key_names.specs.Transcripts.SeenLine.{bytes_shown};
@@ -36,7 +37,7 @@ pub(crate) struct LoadRequest {
     pub(crate) events: u32,
 }
 
-/// The load that the words name, if they name one.
+/// The request that the words make, if they are `load START CALLERS EVENTS`.
 pub(crate) fn load_of(words: &[String]) -> Option<LoadRequest>
     ensures found { IfSome result (λ load. IsLoad words.now load.start load.callers load.events) }
     ensures only { (start callers events : ℕ) → IsLoad words.now start callers events

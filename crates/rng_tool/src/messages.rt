@@ -12,10 +12,10 @@ use tool_ends::Status;
 use tool_ends::refusal::{clause_in, fault_in};
 use tool_ends::tee::TeeSource;
 
-/// The most bytes of a line that are shown.
+/// The most bytes of a line that a message shows.
 pub(crate) const MOST_SHOWN: usize = 80;
 
-/// Kind 13, which only a session has, in words.
+/// What a message says about kind 13, which only a session can answer.
 const NOT_ALONE: &str = "a session has one caller, who forks nobody and acts inside no call";
 
 /// The reason in a short answer: the fault of a script, the line of an event that no session takes, or the clause that
@@ -29,7 +29,7 @@ pub(crate) enum Why {
     Unsaid,
 }
 
-// The number in the refusal of an event that no session takes.
+// The line number in the refusal of a fork, or of an act inside a vgetrandom call, by a session.
 fn not_alone_in(answer: &[u8]) -> Option<u32> {
     let word = answer.split(|byte| *byte == b' ').nth(1)?;
     let number = number_up_to(u64::from(u32::MAX), word)? as u32;

@@ -55,8 +55,8 @@ use tool_ends::{Status, end_output};
 ///   script and B bytes of data in the transcript.
 /// - `draw C K`: 1 to 1,000 numbers below C are drawn, and each gets a line. C is below 2^32, and 0 means 2^32. If 128
 ///   words were all rejected, the last line is `spent`.
-/// - `vfork POINT ATTEMPT N`: a vgetrandom call for N bytes, up to 2^20, is forked at point POINT (1 to 4) of attempt
-///   ATTEMPT (1 or 2). The output is `parent HEX` and `child HEX`, the bytes that each gives out.
+/// - `vfork POINT ATTEMPT N`: the caller of a vgetrandom call for N bytes, up to 2^20, forks at point POINT (1 to 4) of
+///   attempt ATTEMPT (1 or 2). The output is `parent HEX` and `child HEX`, the bytes that each of the two gives out.
 /// - `feed START FEEDERS SAMPLES`: 1 to 16 threads give a CPU 1 to 10,000 interrupt samples each, all at moment 0.
 ///   Sample i of thread f has the words START + i and f. The output is the line
 ///   `feeders FEEDERS samples N dumps D bits B`: the samples mixed, the dumps made, and the pool's bits after them. The

@@ -82,8 +82,8 @@ const READS_SCRIPT: &[u8] = b"rngscript 1\n\
 // More bytes than any output here has.
 const ROOM: usize = 1000;
 
-// The most bytes that the source gives and the sink takes in one call. For each of the two, the number of the call that
-// fails (0 for none). Whether the flush fails.
+// How a source and a sink behave: `step` is the most bytes that each of them moves in one call. `failing_take` and
+// `failing_put` are the numbers of the source's and the sink's call that fails, 0 for none.
 #[derive(Clone, Copy)]
 struct Edges {
     step: usize,
@@ -99,7 +99,7 @@ const WHOLE: Edges = Edges {
     flush_fails: false,
 };
 
-// One byte in each call.
+// The source gives, and the sink takes, one byte in each call; no call fails.
 const SMALL: Edges = Edges { step: 1, ..WHOLE };
 
 // The status of a run with these words over a source and a sink in memory, and the content of the sink.
@@ -170,7 +170,8 @@ const ROWS: [UsageRow; 10] = [
     ),
 ];
 
-// The source gives one byte a call, and one more call finds the end. A command without input makes no call.
+// The source gives one byte a call, and one more call finds the end of the input. A command without input calls no
+// source.
 #[test]
 fn a_source_that_fails_at_each_call(rt: HostRuntime) -> Result<(), Fail> {
     for (row, (words, input, status, output)) in ROWS.iter().enumerate() {

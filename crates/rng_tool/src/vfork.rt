@@ -1,4 +1,5 @@
-//! A fork inside a vgetrandom call: its words, its run, and a line for each end.
+//! The command `vfork`: reads its words, forks inside a vgetrandom call, and writes a line for the parent and for the
+//! child.
 ghost use Rattle.std.specs.Prelude.{◌≡◌, ◌≤◌, ◌+◌, ◌*◌, ◌^◌, ◌++◌, ◌∷◌, [], ℕ, Some, IfOk, IfSome, length};
 ghost use Rattle.hex.specs.Hex.{encode_lower};
 ghost use Rattle.key_names.specs.declared.point.Point.{Point};
@@ -15,14 +16,14 @@ use std::sync::Wait;
 use tool_ends::numbers::CommandForm;
 use tool_ends::{Status, put_answer};
 
-/// The most bytes that each end of the fork gives out.
+/// The most bytes that the parent or the child gives out.
 const MOST_BYTES: u32 = 1 << 20;
 
 const PARENT: &[u8] = b"parent ";
 
 const CHILD: &[u8] = b"child ";
 
-/// A call for `len` bytes, forked at a point of an attempt.
+/// A vgetrandom call for `len` bytes, whose caller forks at this point of this attempt.
 #[derive(Clone, Copy, Debug, PartialEq, Eq)]
 pub(crate) struct Vfork {
     pub(crate) point: Point,
@@ -41,7 +42,7 @@ fn attempt_of(number: u32) -> Turn
     }
 }
 
-/// The fork that the words name, if they name one.
+/// The request that the words make, if they are `vfork POINT ATTEMPT N`.
 #[tactic(auto, using(crate::proofs::VforkWords::point_range, crate::proofs::VforkWords::turn_range, key_names::proofs::Points::numbered, key_names::proofs::Points::point_again))]
 pub(crate) fn vfork_of(words: &[String]) -> Option<Vfork>
     ensures found { IfSome result (λ vfork. IsVfork words.now vfork.point vfork.attempt vfork.len) }
@@ -63,7 +64,7 @@ pub(crate) fn vfork_of(words: &[String]) -> Option<Vfork>
     })
 }
 
-// Writes the line of one end of a fork: its name, and its bytes in hex.
+// Writes the line of the parent or of the child: its name, and its bytes in hex.
 fn write_end(out: &mut [u8], name: &[u8], bytes: &[u8])
     requires fits { length out.old ≡ length name.now + 2 * length bytes.now + 1 }
     requires short { length bytes.now ≤ 2 ^ 20 }
@@ -78,7 +79,8 @@ fn write_end(out: &mut [u8], name: &[u8], bytes: &[u8])
     };
 }
 
-// Forks inside a call, and returns the line of each end. Memory for the lines is taken before the fork.
+// Forks inside a vgetrandom call, and returns the lines of the parent and of the child. Memory for both lines is taken
+// before the fork.
 fn lines_of<R: Wait>(rt: &R, alloc: Global, vfork: Vfork) -> Result<Vec<u8>, NoMemory>
     requires { IsSmallVfork vfork }
     ensures { IfOk result (λ text. VforkOf vfork.point vfork.attempt vfork.len text.items) }
@@ -93,7 +95,7 @@ fn lines_of<R: Wait>(rt: &R, alloc: Global, vfork: Vfork) -> Result<Vec<u8>, NoM
     Ok(text)
 }
 
-/// Forks inside a call on a new table, and writes a line for each end.
+/// Forks inside a vgetrandom call on a new table, and writes a line for the parent and for the child.
 pub(crate) fn run_vfork<R: Wait, K: Sink>(
     rt: &R,
     alloc: Global,

@@ -1,4 +1,5 @@
--- The clauses on answers and data hold exactly if each line agrees with the answer and data made from its steps.
+-- The clauses on answers and data hold exactly if each line agrees with the answer and data that were made from its
+-- steps.
 use Rattle.std.proofs.Common.{◌≡◌, ℕ, zero, suc, ◌+◌, ◌<◌, Option, Some, List, [], ◌∷◌, length, sym, subst, ap, ◌∙◌, arith}
 use Rattle.std.specs.Prelude.{◌↔◌, ⊤, slice_get}
 use Rattle.std.specs.List.{AllByRecursion}
@@ -20,13 +21,13 @@ use Rattle.serial_replay.specs.Remade.{said_of_caller}
 pub some_one : {X : Type 0} (o : Option X) (a b : X) → o ≡ Some a → o ≡ Some b → a ≡ b
 some_one o a b p q = cc
 
--- each caller's lines have the property `Is`
+-- each line of each caller has the property `Is`, by the caller's number; the first caller has the number `c`
 abbrev pub AllAre : (ℕ → SeenLine → Type 0) → ℕ → List (List SeenLine) → Type 0
 AllAre Is c [] = ⊤
 AllAre Is c (lines ∷ t) = AllByRecursion (Is c) lines × AllAre Is (suc c) t
 
--- `means_same`: a line with the property `Is` has its meaning's answer (or data) exactly if the line agrees with its
--- note
+-- `means_same`: a line with the property `Is` has the answer (or data) of its meaning exactly if the line agrees with
+-- its note
 module _ {Noted : Type 0} (IsNoted : ℕ → ℕ → MadeLine → Noted → Type 0) (Same : SeenLine → Noted → Type 0)
     (Means : SeenLine → LineMeaning → Type 0) (Is : ℕ → SeenLine → Type 0)
     (means_same : (c : ℕ) (notes : List Noted) (line : SeenLine) (m : LineMeaning) → Is c line →
@@ -118,7 +119,8 @@ module _ {Noted : Type 0} (IsNoted : ℕ → ℕ → MadeLine → Noted → Type
           first here rest (suc d) low =
               subst (λ n. AllByRecursion (Agrees Same (notes n)) (list_at t d)) (omega arith) (rest d (omega arith))
 
-    -- `Means` holds of each line of the transcript and its meaning exactly if each line agrees with its note
+    -- `Means` holds of each line of the transcript `t` with its meaning exactly if each line agrees with its note in
+    -- `notes`
     pub all_both : (script : Script) (t : List (List SeenLine)) (mss : List (List CallMeaning)) (notes : List (List Noted)) →
         HasLines script t → AllAre Is 0 t →
         EachCaller (λ c calls ms. EachLine (SaysIt (said_of_caller IsNoted notes c)) calls ms) 0 (script_calls script t) mss →
@@ -130,7 +132,7 @@ module _ {Noted : Type 0} (IsNoted : ℕ → ℕ → MadeLine → Noted → Type
               (h d low))),
         )
 
--- ---- notes that are the whole answers and data
+-- ---- notes that hold a line's whole answer and data
 
 abbrev pub Any : ℕ → SeenLine → Type 0
 Any c line = ⊤

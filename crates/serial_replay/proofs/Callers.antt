@@ -1,4 +1,4 @@
--- If a fact holds for each caller's number, `EachCaller` holds of this fact, and conversely.
+-- If a fact holds for the number of each caller, `EachCaller` holds of this fact, and conversely.
 use Rattle.std.proofs.Common.{ℕ, zero, suc, ◌+◌, ◌<◌, List, [], ◌∷◌, length, refl, subst, arith}
 use Rattle.std.specs.List.{AllByRecursion}
 use Rattle.key_names.specs.declared.events.Event.{Event}
@@ -30,7 +30,7 @@ caller_means lists settings c (calls ∷ callers) (ms ∷ mss) all (suc d) low =
     subst (λ n. MeansSome lists (settings n) (list_at callers d)) (omega arith)
     (caller_means lists settings (suc c) callers mss all.1 d (omega arith))
 
--- the calls of all callers have meanings, answers and data
+-- the calls of all callers have meanings, and the answers and data of these meanings are those in `saids`
 pub record SaidByAll (lists : Lists) (settings : ℕ → Setting) (saids : ℕ → ℕ → MadeLine → Type 0) (c : ℕ)
     (callers : List (List Call)) : Type 0 where
   pub mss : List (List CallMeaning)
@@ -49,7 +49,7 @@ said_by_all lists settings saids c (calls ∷ callers) each =
     (each (suc d) (omega arith))) in
     record { mss = first.meanings ∷ rest.mss; means = (first.mean, rest.means); says = (first.says, rest.says) }
 
--- the events and the lines that a caller's calls are made of
+-- the events and the lines that the calls of one caller group
 pub record CallsOf (calls : List Call) : Type 0 where
   pub events : List Event
   pub lines : List SeenLine

@@ -1,4 +1,4 @@
--- Two clauses of the code are equal if the corresponding clauses of the definitions are equal.
+-- If the definitions' clauses for two clauses of the code are equal, the two clauses of the code are equal.
 use Rattle.std.proofs.Common.{◌≡◌, refl, sym, ap, ◌∙◌}
 use Rattle.key_names.specs.Transcripts.IsTranscript as laws
 use Rattle.judge_lines.specs.Clauses.{clause_of}

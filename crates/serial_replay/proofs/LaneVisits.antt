@@ -17,7 +17,7 @@ use Rattle.key_names.proofs.Lists.Each.{each_both, each_weaker}
 use Rattle.key_names.proofs.Transcripts.LaneCounts.{lane_itself, same_lane}
 use Rattle.serial_replay.proofs.MarksCounted.{marks_counted}
 
--- the marks of a lane, each with the caller that made it
+-- the marks of the lane, in the order of `marks`, each with the caller that made it
 abbrev pub of_lane : LaneId → List MarkBy → List MarkBy
 of_lane lane [] = []
 of_lane lane (by ∷ marks) = if is_same_lane by.mark.lane lane then by ∷ of_lane lane marks else of_lane lane marks
@@ -32,7 +32,7 @@ marks_alone lane (by ∷ marks) = go (is_same_lane by.mark.lane lane) (marks_alo
     go true rest = ap (λ ms. by.mark ∷ ms) rest
     go false rest = rest
 
--- each mark that `of_lane` picks for a lane is on that lane
+-- each mark that `of_lane lane` picks from `marks` is on the lane `lane`
 are_there : (lane : LaneId) (marks : List MarkBy) → AllByRecursion (λ by. by.mark.lane ≡ lane) (of_lane lane marks)
 are_there lane [] = tt
 are_there lane (by ∷ marks) = go (is_same_lane by.mark.lane lane) refl (are_there lane marks)
@@ -43,7 +43,7 @@ are_there lane (by ∷ marks) = go (is_same_lane by.mark.lane lane) refl (are_th
     go true is rest = (same_lane by.mark.lane lane is, rest)
     go false is rest = rest
 
--- if `P` holds of each lane's marks, `P` holds of all marks
+-- if `P` holds of the marks of each lane, `P` holds of all marks
 by_lanes : (P : MarkBy → Type 0) (marks : List MarkBy) → ((lane : LaneId) → AllByRecursion P (of_lane lane marks)) →
     AllByRecursion P marks
 by_lanes P [] each = tt
@@ -58,7 +58,7 @@ by_lanes P (by ∷ marks) each =
     go lane true all = all.1
     go lane false all = all
 
--- the visits that pair each entry with the mark in the same position
+-- the visits of a lane: each entry of the list, paired with the mark in the same position
 abbrev pub visits : {E : Type 0} → List E → List MarkBy → List (Visit E)
 visits [] bys = []
 visits (e ∷ es) [] = []
@@ -79,7 +79,7 @@ at_end : {E : Type 0} (front : List (Visit E)) (v : Visit E) (rest : List (Visit
 at_end [] v rest = refl
 at_end (x ∷ front) v rest = at_end front v rest
 
--- at each mark's place there is a visit with the mark's stamp and caller
+-- if a lane's places count up from `i`, there is, at the place of each mark, a visit with the mark's stamp and caller
 placed : {E : Type 0} (front : List (Visit E)) (es : List E) (bys : List MarkBy) (i : ℕ) → length front ≡ i →
     InOrder i (map (λ by. by.mark) bys) → length bys ≡ length es →
     AllByRecursion (λ by. stamped (front ++ visits es bys) by.mark.place ≡ Some (by.mark.stamp, by.who)) bys
@@ -96,7 +96,7 @@ placed {E = E} front (e ∷ es) (by ∷ bys) i long order same =
     )
 
 module _ (marks : List MarkBy) where
-  -- the visits of each CPU; the first CPU has the number `c`
+  -- the visits of each CPU in the list; the first CPU in it has the number `c`
   abbrev pub cpu_visits : ℕ → List (List CpuEntry) → List (List (Visit CpuEntry))
   cpu_visits c [] = []
   cpu_visits c (es ∷ ess) = visits es (of_lane (CpuLane c) marks) ∷ cpu_visits (suc c) ess
@@ -157,7 +157,7 @@ module _ (marks : List MarkBy) where
     cpu_long_0 : (c : ℕ) → length (of_lane (CpuLane (0 + c)) marks) ≡ length (list_at lists.cpus c)
     cpu_long_0 c = ap (λ n. length (of_lane (CpuLane n) marks)) (omega arith) ∙ cpu_long c
 
-    -- the book that is made has the given lists
+    -- the book made from `lists`, `states` and the marks has these lists
     pub lists_back : lists_of (book_of lists states) ≡ record lists { callers = states }
     lists_back = λ i. record {
       pool = entries_back lists.pool (of_lane PoolLane marks) pool_long i;

@@ -1,4 +1,4 @@
--- Looks are lawful by the data kept about the lanes exactly if these looks are lawful in the lists of the lanes.
+-- Looks are lawful by the data kept about the lanes exactly if they are lawful in the lists of the lanes.
 use Rattle.std.proofs.Common.{◌≡◌, ℕ, zero, suc, ◌<◌, ◌-◌, Option, Some, None, List, [], ◌∷◌, length, map, max, take, refl, sym, subst, ap, ◌∙◌, arith}
 use Rattle.std.specs.Prelude.{◌↔◌, slice_get, unwrap_or, option_map}
 use Rattle.std.specs.List.{fold, AllByRecursion}
@@ -56,8 +56,8 @@ at_place : {K E : Type 0} (S : ℕ → K → E → Type 0) (kept : List K) (list
     AtPlace S kept i (slice_get list i)
 at_place S kept list i all = kept_there S kept list i all.count (all.each i)
 
--- if `S` holds of each lane's kept list and entry list, and of two empty lists, `S` holds of the two lists at any
--- number `c`
+-- if `S` holds of each lane's kept data with the lane's entries, and of two empty lists, `S` holds of the kept data and
+-- the entries at any lane number `c`
 lane_there : {K E : Type 0} (kept : List (List K)) (lists : List (List E)) (c : ℕ) (o : Option (List E)) →
     slice_get lists c ≡ o → length kept ≡ length lists → (S : ℕ → List K → List E → Type 0) →
     AtPlace S kept c o → S c [] [] → S c (list_at kept c) (list_at lists c)
@@ -89,7 +89,8 @@ module _ (kept : KeptLists) (lists : Lists) (keeps : Keeps kept lists) where
       (KeepsCpuLane lists) (at_place (KeepsCpuLane lists) (cpu_lanes kept) lists.cpus c keeps.cpus)
       (record { count = refl; each = λ i k e is. cc })
 
-  -- after a visit of the base, the generation seen is the same by the kept data as by the definitions
+  -- after a visit of the base, the generation that the caller has seen is the same by the kept data as by the
+  -- definitions
   base_left : (seen : Option ℕ) (place : ℕ) (o : Option BaseEntry) →
       AtPlace (λ i k e. KeepsBase (base_used_at lists.pool lists.base i) k (base_visit lists i e)) kept.base.items place o →
       unwrap_or (seen_more seen (left_at kept BaseLane place)) 0
@@ -131,7 +132,7 @@ module _ (kept : KeptLists) (lists : Lists) (keeps : Keeps kept lists) where
   step_left seen (Look g) = refl
   step_left seen (Marked mark) = lane_left seen mark.lane mark.place
 
-  -- the effect of a visit is always lawful, since only a look can be unlawful
+  -- the condition on looks holds of the effect of a visit, since only a look can be unlawful
   visit_conforms : {E : Type 0} (reseeds seen : ℕ) (effect : E → Effect) → ((e : E) → LookConforms reseeds seen (effect e)) →
       (o : Option E) → LookConforms reseeds seen (effect_or effect o)
   visit_conforms reseeds seen effect each None = tt
@@ -167,7 +168,7 @@ module _ (kept : KeptLists) (lists : Lists) (keeps : Keeps kept lists) where
         (λ h. (here.1 h.0, rest.1 (subst (λ (n : ℕ). LooksFrom reseeds n (effects_of lists order)) (sym left) h.1))),
       )
 
-  -- the number of reseeds is the last generation of the base
+  -- the generation kept for the base's last visit is the generation after all entries of the base
   reseeds_from : (kept_base : List KeptBase) (es : List BaseEntry) (s : BaseState) (i : ℕ) → length kept_base ≡ length es →
       ((j : ℕ) (k : KeptBase) (e : BaseEntry) → slice_get kept_base j ≡ Some k → slice_get es j ≡ Some e →
       k.generation ≡ (base_step (fold base_step s (take j es)) e).generation) →
@@ -195,7 +196,8 @@ module _ (kept : KeptLists) (lists : Lists) (keeps : Keeps kept lists) where
       by [] (k ∷ ks) long each = absurd (omega arith)
       by (e ∷ es) ks long each = reseeds_from ks (e ∷ es) base_start 0 long each (omega arith)
 
-  -- all looks of these orders are lawful by the kept data exactly if these looks are lawful in the lists
+  -- let `orders` have each caller's steps in order. The looks in them are lawful by the kept data exactly if they are
+  -- lawful in the lists
   pub looks_conform : (reseeds : ℕ) → reseeds ≡ reseeds_in kept.base.items → (orders : List (List Step)) →
       AllByRecursion (Along (seen_past kept) (MayLook reseeds) None) orders
       ↔ AllByRecursion (λ order. LooksConform (base_after lists.base).generation [] (effects_of lists order)) orders

@@ -1,5 +1,5 @@
 -- If lawful lists match the inferred entries, the transcript's steps make a book with these lists. If no lawful lists
--- match, the steps make no book.
+-- match the inferred entries, the steps make no book.
 use Rattle.std.proofs.Common.{◌≡◌, ℕ, Bool, List, [], map, refl, sym, subst, ap, ◌∙◌}
 use Rattle.std.specs.Prelude.{◌↔◌, IsTrue}
 use Rattle.std.specs.List.{AllByRecursion}
@@ -37,7 +37,7 @@ use Rattle.serial_replay.proofs.LaneVisits.{Placed, book_of, lists_back, as_many
 use Rattle.serial_replay.proofs.StatesAside.{aside, effects_same, fills_aside, lawful_aside, means_aside}
 
 module _ (script : Script) (t : List (List SeenLine)) (parts : TranscriptParts) (conform : PartsConform script t parts) where
-  -- if the steps make no book, the clause on forms fails first
+  -- if the steps of `t` make no book, the clause on forms is the first that fails
   pub stops : (MadeBook script t → ⊥) → FailsEarly script t Forms
   stops none = record {
     early = tt;
@@ -58,7 +58,7 @@ module _ (script : Script) (t : List (List SeenLine)) (parts : TranscriptParts) 
     book_is : (made : MadeBook script t) → IsBookOf script t made.book
     book_is made = record { cpus = made.forms.cpus; visits = made.forms.visits }
 
-    -- if the steps make a book, the book's lists match the inferred entries and are lawful
+    -- if the steps of `t` make a book, the book's lists match the inferred entries and are lawful
     pub made_fills : (made : MadeBook script t) → Fills inferred (lists_of made.book)
     made_fills made = (gathered.fills made.book (book_is made)).0
         (all_inferred script t made.book made.meanings made.lines made.forms.callers made.forms.lanes
@@ -84,7 +84,7 @@ module _ (script : Script) (t : List (List SeenLine)) (parts : TranscriptParts) 
         visits = visits_are marks lists states stored (all_marks t) conform.all_marks;
       }
 
-      -- each line's visits have the inferred entries
+      -- each visit of each line has the inferred entry
       pub lines_fill : AllCallsFill lists calls
       lines_fill =
           let back : lists_of (book_of marks lists lists.callers) ≡ lists = lists_back marks lists lists.callers stored in
@@ -139,7 +139,8 @@ module _ (script : Script) (t : List (List SeenLine)) (parts : TranscriptParts) 
         abbrev Of : ℕ → (List Step → List Effect) → Type 0
         Of n effects = AllByRecursion (λ order. LooksConform n [] (effects order)) (caller_orders calls)
 
-        -- the steps make a book with these meanings; looks are lawful in the book exactly if they are lawful in `lists`
+        -- the steps of `t` make a book with the meanings `said.mss`; the looks are lawful in this book exactly if they
+        -- are lawful in `lists`
         pub record OfLists : Type 0 where
           pub made : MadeBook script t
           pub meanings : made.meanings ≡ said.mss

@@ -1,4 +1,5 @@
--- The number of all marks is the sum of the numbers of the pool's marks, the base's marks and all CPUs' marks.
+-- The number of all marks is the number of the pool's marks, plus that of the base's marks, plus those of each CPU's
+-- marks.
 use Rattle.std.proofs.Common.{◌≡◌, ℕ, zero, suc, ◌+◌, ◌<◌, ◌≤◌, Bool, true, false, List, [], ◌∷◌, length, refl, sym, subst, ap, ◌∙◌, arith}
 use Rattle.std.specs.Prelude.{nat_lt, ◌==◌, if◌then◌else◌}
 use Rattle.std.specs.List.{AllByRecursion, sum_by}
@@ -11,12 +12,12 @@ use Rattle.key_names.specs.Transcripts.IsTranscript.{MarkBy, is_same_lane, lane_
 use Rattle.key_names.proofs.History.SortedVisits.{one_if}
 use Rattle.key_names.proofs.Lists.ListFacts.{list_beyond}
 
--- how many marks the `n` CPUs from `c` on have together
+-- how many of `marks` are on the `n` CPUs from CPU `c` on
 abbrev on_cpus : ℕ → ℕ → List MarkBy → ℕ
 on_cpus c zero marks = 0
 on_cpus c (suc n) marks = length (lane_marks (CpuLane c) marks) + on_cpus (suc c) n marks
 
--- how often a mark of CPU `e` counts: once if `e` is one of the `n` CPUs from `c` on; otherwise zero times
+-- how often a mark on CPU `e` counts: once if `e` is one of the `n` CPUs from `c` on, and otherwise not at all
 abbrev one_of : ℕ → ℕ → ℕ → ℕ
 one_of c zero e = 0
 one_of c (suc n) e = one_if (e == c) + one_of (suc c) n e
@@ -116,7 +117,7 @@ all_counted n (by ∷ marks) all = go by.mark.lane refl all.0 (all_counted n mar
         let one : one_of 0 n c ≡ 1 = one_among 0 n c (omega arith) (omega arith) in
         let z : on_cpus 0 n (by ∷ marks) ≡ one_of 0 n c + on_cpus 0 n marks = cpu_more 0 n c by marks is in omega arith
 
--- if no CPU from `n` on has a mark, each mark of a CPU is of a CPU below `n`
+-- if no CPU with a number from `n` on has a mark, each mark on a CPU is on a CPU with a number below `n`
 below_all : (n : ℕ) (marks : List MarkBy) → ((c : ℕ) → n ≤ c → length (lane_marks (CpuLane c) marks) ≡ 0) →
     AllByRecursion (λ by. IsThere n by.mark.lane) marks
 below_all n [] none = tt

@@ -1,4 +1,4 @@
--- For caller `c`, the loop over callers has the caller's calls, the setting before each call, and the notes.
+-- For the caller `c`, the loop over callers uses this caller's calls, settings and notes.
 use Rattle.std.proofs.Common.{◌≡◌, ℕ, zero, suc, ◌+◌, ◌<◌, Some, List, [], ◌∷◌, ◌++◌, length, get_or, map, sym, subst, ap, ◌∙◌, arith}
 use Rattle.std.specs.Prelude.{slice_get}
 use Rattle.std.specs.List.{AllByRecursion}

@@ -18,7 +18,7 @@ use Rattle.serial_replay.proofs.Clauses.{same_clause}
 use Rattle.serial_replay.proofs.Replays.{lawful_book}
 
 module _ (script : Script) (t : List (List SeenLine)) where
-  -- if a clause stops a replay, that clause is the first that fails, or the steps make a book
+  -- if the clause `c` stops a replay, `c` is the first that fails, or the steps make a book
   before_book : (c : Clause) → StepsFail script t c → FirstFails script t c ⊎ MadeBook script t
   before_book lines_clause f = inl f
   before_book marks_clause f = inl f
@@ -27,7 +27,7 @@ module _ (script : Script) (t : List (List SeenLine)) where
   before_book data_clause f = absurd f
   before_book looks_clause f = inr f.0
 
-  -- if the steps make a book, only the clause on looks can stop a replay
+  -- if the steps make a book and the clause `c` stops the replay, `c` is the clause on looks
   at_looks : (c : Clause) → MadeBook script t → StepsFail script t c → c ≡ looks_clause
   at_looks lines_clause made f = absurd (f made.lines)
   at_looks marks_clause made f = absurd (f.1 made.marks)

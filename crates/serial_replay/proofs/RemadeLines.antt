@@ -1,4 +1,4 @@
--- The results of `remake` are right if the clauses on lines and marks hold.
+-- If the clauses on lines and marks hold, the results of `remake` are right.
 use Rattle.std.proofs.Common.{◌≡◌, ℕ, ◌<◌, ◌≤◌, None, List, length, map, sym, subst, ap, ◌∙◌, arith}
 use Rattle.std.specs.Prelude.{◌↔◌, IsTrue}
 use Rattle.std.specs.List.{AllByRecursion}
@@ -67,12 +67,13 @@ module _ (script : Script) (t : List (List SeenLine)) (parts : TranscriptParts) 
   in_range = subst (λ (calls : List (List Call)). AllByRecursion (AllByRecursion CallInRange) calls) (sym conform.calls)
       (all_in_range script.version script.cpus script.callers t well.ranges)
 
-  -- if no book has these visits (a line visits a CPU that does not exist), the clause on forms fails first
+  -- if no book has the visits of `t` (some line visits a CPU that does not exist), the clause on forms is the first
+  -- that fails
   pub none_gathered : ((book : Book) → IsBookOf script t book → ⊥) → FailsEarly script t Forms
   none_gathered none = stops script t parts conform
       (λ m. none m.book (record { cpus = m.forms.cpus; visits = m.forms.visits }))
 
-  -- if no lawful lists match the inferred entries, the clause on forms fails first
+  -- if no lawful lists match the inferred entries, the clause on forms is the first that fails
   pub none_replayed : (inferred : Tables) → IsGathered script t inferred →
       ((lists : Lists) → Fills inferred lists → Lawful inferred lists → ⊥) → FailsEarly script t Forms
   none_replayed inferred gathered none = stops script t parts conform
@@ -83,7 +84,7 @@ module _ (script : Script) (t : List (List SeenLine)) (basis : Basis) (conform :
   abbrev calls : List (List Call)
   calls = script_calls script t
 
-  -- if the steps make a book, the kept data are right for the book's lists
+  -- if the steps of `t` make a book, the data kept in `basis` are right for the book's lists
   pub keeps_made : (m : MadeBook script t) → Keeps basis.lists (lists_of m.book)
   keeps_made m = conform.keeps (lists_of m.book)
       (made_fills script t basis.parts conform.parts conform.inferred conform.gathered m)
@@ -97,7 +98,7 @@ module _ (script : Script) (t : List (List SeenLine)) (basis : Basis) (conform :
     found = conform.settings;
   }
 
-  -- if the steps of some line match no form, the clause on forms fails first
+  -- if the steps of some line match no form of its call, the clause on forms is the first that fails
   pub none_said :
       ((lists : Lists) → Keeps basis.lists lists → LawfulLanes lists →
       AllMeanSome lists (seen_calls basis.parts.calls.items) → ⊥) →

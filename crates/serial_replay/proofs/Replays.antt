@@ -1,4 +1,4 @@
--- The lines that a replay writes are a lawful transcript. No other lawful transcript has the given steps.
+-- The lines that a replay writes are a lawful transcript. No other lawful transcript has the same steps.
 use Rattle.std.proofs.Common.{◌≡◌, ℕ, zero, suc, ◌<◌, Option, Some, None, List, [], ◌∷◌, length, map, refl, sym, subst, ap, ◌∙◌, arith}
 use Rattle.std.specs.Prelude.{slice_get, IsTrue}
 use Rattle.std.specs.List.{AllByRecursion}
@@ -22,7 +22,7 @@ use Rattle.serial_replay.specs.Written.{said_of, lines_said, said_into, MayShow}
 use Rattle.serial_replay.proofs.Agreement.{some_one, answers_both, data_both}
 use Rattle.serial_replay.proofs.BareMade.{all_made}
 
--- a written line has the steps of the given line
+-- a line written with another answer and other data has the same steps as the given line
 
 bare_of : (line : SeenLine) (o : Option MadeLine) → bare line ≡ bare (said_of line o)
 bare_of line None = refl
@@ -38,7 +38,7 @@ same_steps (said ∷ saids) [] = refl
 same_steps [] (lines ∷ t) = ap (λ (u : List (List SeenLine)). map bare lines ∷ u) (same_steps [] t)
 same_steps (said ∷ saids) (lines ∷ t) = λ i. bare_lines said lines i ∷ same_steps saids t i
 
--- the written lines agree with the answers and data that were made
+-- the written lines agree with the answers and data in `said`
 
 module _ (Same : SeenLine → MadeLine → Type 0) (fits : (line : SeenLine) (s : MadeLine) → Same (said_of line (Some s)) s) where
   of_same : (said : List MadeLine) (line : SeenLine) (o : Option MadeLine) → slice_get said line.event ≡ o →
@@ -60,7 +60,7 @@ module _ (Same : SeenLine → MadeLine → Type 0) (fits : (line : SeenLine) (s 
   all_agree (said ∷ saids) (lines ∷ t) long all (suc c) low =
       all_agree saids t (omega arith) (λ d lower. all (suc d) (omega arith)) c (omega arith)
 
--- two lines that have the same steps, and agree with the same answer and data, are equal
+-- if lines `u` and `v` have the same steps, and agree with the same answer and data, they are equal
 
 same_line : (said : List MadeLine) (u v : SeenLine) → bare u ≡ bare v → Agrees SameAnswer said u → Agrees SameAnswer said v →
     Agrees SameShown said u → Agrees SameShown said v → u ≡ v
@@ -116,11 +116,12 @@ lawful_book script t is = record {
 }
 
 module _ (script : Script) (t : List (List SeenLine)) (m : Made MadeLine) (of : AllMade itself script (map (map bare) t) m) where
-  -- if the results are right for a transcript, they are also right for each transcript `v` with the same steps
+  -- if the made answers and data `m` are right for a transcript, they are right for each transcript `v` with the same
+  -- steps
   made_for : (v : List (List SeenLine)) → SameSteps t v → AllMade itself script v m
   made_for v same = all_made script v itself m (subst (λ (u : List (List SeenLine)). AllMade itself script u m) same of)
 
-  -- if `v` is a lawful transcript with the same steps, all its lines agree with the results
+  -- if `v` is a lawful transcript with the same steps, all its lines agree with the made answers and data `m`
   module _ (v : List (List SeenLine)) (same : SameSteps t v) (is : IsTranscript script v) where
     a : AllMade itself script v m
     a = made_for v same
@@ -162,7 +163,7 @@ module _ (script : Script) (t : List (List SeenLine)) (m : Made MadeLine) (of : 
             shown;
       }
 
--- a clause that fails before the answers stops the replay
+-- if a clause before the answers (lines, marks or forms) is the first that fails, it stops the replay
 pub early_stops : (script : Script) (t : List (List SeenLine)) (clause : Clause) → FailsEarly script t clause →
     StepsFail script t (clause_of clause)
 early_stops script t Lines f = f.fails
@@ -170,7 +171,7 @@ early_stops script t Marks f = f.fails
 early_stops script t Forms f = f.fails
 early_stops script t clause f = absurd f.early
 
--- a look that is not lawful stops the replay
+-- if some look is not lawful, the clause on looks stops the replay
 pub looks_stop : (script : Script) (t : List (List SeenLine)) (m : Made MadeLine) → AllMade itself script t m →
     (IsTrue m.looks_conform → ⊥) → StepsFail script t looks_clause
 looks_stop script t m a fall = (a.made, (λ conform. fall (a.looks.1 conform)))

@@ -69,7 +69,8 @@ words_from c n w (Inside point act ∷ es) (l ∷ ls) fit all =
     by false word waits apart = (word, apart)
 words_from c n w (e ∷ es) (l ∷ ls) fit all = (fit.0.word_is, words_from c (suc n) w es ls fit.1 all)
 
--- the data of an event are of the kind that its word may show
+-- the data of an event are of a kind that the event's word allows: a number for `bits`, bytes for other words, or no
+-- data
 
 bytes_kind : (word : Word) → word ≢ BitsWord → (bs : List ℕ) → IsFor word (bytes_or_none bs)
 bytes_kind word other [] = tt
@@ -96,7 +97,7 @@ event_kind Int32 effects = bytes_kind (event_word Int32) (λ e. cc) (served_byte
 event_kind Int64 effects = bytes_kind (event_word Int64) (λ e. cc) (served_bytes effects)
 event_kind _ effects = tt
 
--- the data of a call's lines are of the kind that their words may show
+-- the data of each line of a call are of a kind that the line's word allows
 
 abbrev Kind : SeenLine → LineMeaning → Type 0
 Kind line m = IsFor line.word m.shown
@@ -133,7 +134,7 @@ acts_kind set reached (bound ∷ acts) (m ∷ ms) words means =
     go true done = act_kind set bound.act bound.line m words.0 done
     go false none = kind_of bound.line InsideWord no_data m.shown words.0 (ap (λ (x : LineMeaning). x.shown) none) tt
 
--- if there are no meanings of acts, there are no acts, so each act's data are of the right kind
+-- if the list of the acts' meanings is empty, there are no acts, so each act's data are of the right kind
 none_kind : (at : ℕ → MadeLine → Type 0) (acts : List BoundAct) (ms : List LineMeaning) → ms ≡ [] → EachAct (SaysIt at) acts ms →
     EachAct Kind acts ms
 none_kind at [] [] none says = tt

@@ -1,5 +1,4 @@
--- The effects of steps do not depend on the lists of vgetrandom states. So the effects stay the same if these lists are
--- replaced by others.
+-- The effects of steps stay the same if the lists of vgetrandom states are replaced by others.
 use Rattle.std.proofs.Common.{◌≡◌, ℕ, true, false, Option, Some, None, List, map, take, refl, sym, subst, ap, ◌∙◌}
 use Rattle.std.specs.Prelude.{if◌then◌else◌, slice_get}
 use Rattle.std.specs.List.{fold}

@@ -1,4 +1,5 @@
--- The invariants of the loops that write lines: they hold after one more line, and after one more caller.
+-- The loops that write a transcript's lines keep their invariants: after one more line of a caller, and after one more
+-- caller.
 use Rattle.std.proofs.Common.{◌≡◌, ℕ, zero, suc, ◌+◌, ◌<◌, ◌≤◌, Some, List, [], ◌∷◌, ◌++◌, length, get_or, drop, refl, sym, subst, ap, ◌∙◌, arith, append_assoc}
 use Rattle.std.specs.Prelude.{slice_get, slice_index_or}
 use Rattle.std.specs.List.{AllByRecursion}
@@ -13,7 +14,7 @@ use Rattle.serial_replay.specs.Agreement.{Agrees}
 use Rattle.serial_replay.specs.Remade.{said_lists}
 use Rattle.serial_replay.specs.Written.{said_of, lines_said, said_into, MayShow}
 
--- the invariants hold after one more line of a caller is written
+-- the invariants hold after one more line of a caller, `line`, is written
 module _ (said : List MadeLine) (lines : List SeenLine) (n : ℕ) (line : SeenLine) (is : slice_get lines n ≡ Some line) where
   rest_is : drop n lines ≡ line ∷ drop (n + 1) lines
   rest_is = found_dropped lines n line is
@@ -59,7 +60,7 @@ said_long saids [] = refl
 said_long [] (lines ∷ t) = ap suc (said_long [] t)
 said_long (said ∷ saids) (lines ∷ t) = ap suc (said_long saids t)
 
--- indexing a transcript by a caller's number gives the same lines as `list_at`
+-- indexing the transcript `t` by a caller's number `c` gives the same lines as `list_at t c`
 pub lines_at : (t : List (List SeenLine)) (c : ℕ) → slice_index_or t c [] ≡ list_at t c
 lines_at [] c = refl
 lines_at (lines ∷ t) zero = refl

@@ -18,8 +18,8 @@ use Rattle.serial_replay.specs.declared.remake.Remade.{Remade}
 use Rattle.serial_replay.specs.declared.remake.Remade.TheVariants.{Made as MadeAll, No as NotMade}
 use Rattle.serial_replay.specs.Remade.{FailsEarly}
 
--- the clauses on lines and marks hold, and some lawful lists match the lines. `basis` has the kept data of all such
--- lists
+-- the clauses on lines and marks hold, and some lawful lists match the inferred entries; the kept data in `basis` are
+-- right for all such lists
 pub record BasisConforms (script : Script) (t : List (List SeenLine)) (basis : Basis) : Type 0 where
   pub parts : PartsConform script t basis.parts
   pub settings : AreSettings (seen_calls basis.parts.calls.items) basis.settings.items
@@ -34,7 +34,8 @@ abbrev pub IsFound : Script → List (List SeenLine) → FoundLists → Type 0
 IsFound script t (Conforms basis) = BasisConforms script t basis
 IsFound script t (No clause) = FailsEarly script t clause
 
--- if answers and data were made, they were made from lists that match these steps
+-- if answers and data were made, `BasisConforms` holds of the basis (the kept data of the lanes) that they were made
+-- from
 abbrev pub ConformsOn : {Noted : Type 0} → Script → List (List SeenLine) → Remade Noted → Type 0
 ConformsOn script t (MadeAll m) = BasisConforms script t m.basis
 ConformsOn script t (NotMade clause) = ⊤

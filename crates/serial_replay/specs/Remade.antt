@@ -20,18 +20,18 @@ use Rattle.serial_replay.specs.declared.remake.Made.{Made}
 use Rattle.serial_replay.specs.declared.remake.Remade.{Remade}
 use Rattle.serial_replay.specs.declared.remake.Remade.TheVariants.{Made as MadeAll, No}
 
--- a clause that is judged before any answer
+-- the clause is one of those that are judged before any answer: lines, marks and forms
 abbrev pub IsEarly : Clause → Type 0
 IsEarly Lines = ⊤
 IsEarly Marks = ⊤
 IsEarly Forms = ⊤
 IsEarly _ = ⊥
 
--- the numbers in all steps are in the range of transcripts
+-- the numbers in all steps are in the ranges of the transcript grammar
 abbrev pub StepsFit : List (List SeenLine) → Type 0
 StepsFit t = AllByRecursion (AllByRecursion (λ line. AllByRecursion StepFits line.steps)) t
 
--- `callers` has the calls of each caller, and `settings` has the setting before each call
+-- `callers` has the calls of each caller; `settings` has, for each caller, the setting before each of these calls
 pub record CallersConform (script : Script) (t : List (List SeenLine)) (callers : List (List Call))
     (settings : List (Vec Setting)) : Type 0 where
   pub lines : HasLines script t
@@ -39,12 +39,12 @@ pub record CallersConform (script : Script) (t : List (List SeenLine)) (callers 
   pub calls : callers ≡ script_calls script t
   pub found : AreSettings callers settings
 
--- the calls of one caller have some lawful meanings `ms`
+-- the calls have some lawful meanings in `lists`, if the first one begins with the setting `set`
 pub record MeansSome (lists : Lists) (set : Setting) (calls : List Call) : Type 0 where
   pub ms : List CallMeaning
   pub means : CallerMeans lists set calls ms
 
--- each caller's calls have lawful meanings
+-- in `lists`, the calls of each caller have some lawful meanings
 abbrev pub AllMeanSome : Lists → List (List Call) → Type 0
 AllMeanSome lists callers =
     (c : ℕ) → c < length callers → MeansSome lists (start_setting callers c) (list_at callers c)
@@ -57,7 +57,7 @@ abbrev pub made_by : {Noted : Type 0} → Made Noted → List (List Noted)
 made_by m = said_lists m.callers.items
 
 module _ {Noted : Type 0} (IsNoted : ℕ → ℕ → MadeLine → Noted → Type 0) where
-  -- caller `c`'s note at this event's number is a note of this answer and these data
+  -- the note at the event's number among the notes of caller `c` is a note of the answer and data
   abbrev pub said_of_caller : List (List Noted) → ℕ → ℕ → MadeLine → Type 0
   said_of_caller notes c = NotedAt (IsNoted c) (list_at notes c)
 
@@ -66,8 +66,8 @@ module _ {Noted : Type 0} (IsNoted : ℕ → ℕ → MadeLine → Noted → Type
     pub each : (c : ℕ) → c < length callers →
         IsSaid lists (start_setting callers c) (list_at callers c) (said_of_caller (said_lists notes) c)
 
-  -- the steps make a book. Each line's answer and data are noted at the number of the line's event. `looks_conform` is
-  -- true exactly if the looks are lawful
+  -- the steps of `t` make a book. At the number of each line's event is a note of the line's answer and data.
+  -- `looks_conform` is true exactly if the looks are lawful
   pub record AllMade (script : Script) (t : List (List SeenLine)) (m : Made Noted) : Type 0 where
     pub made : MadeBook script t
     pub long : length (made_by m) ≡ length t
@@ -75,7 +75,7 @@ module _ {Noted : Type 0} (IsNoted : ℕ → ℕ → MadeLine → Noted → Type
         made.meanings
     pub looks : IsTrue m.looks_conform ↔ SeenConforms script t (lists_of made.book)
 
--- the clause is the first that fails, and comes before the answers
+-- the clause is the first that fails, and is judged before the answers
 pub record FailsEarly (script : Script) (t : List (List SeenLine)) (clause : Clause) : Type 0 where
   pub early : IsEarly clause
   pub fails : FirstFails script t (clause_of clause)

@@ -1,4 +1,4 @@
--- The result of a replay.
+-- The result of a replay: the one lawful transcript with the given steps, or the clause that stops the replay.
 use Rattle.std.specs.Prelude.{◌≡◌, List}
 use Rattle.key_names.specs.Lanes.Book.{lists_of}
 use Rattle.key_names.specs.Texts.ScriptGrammar.{Script}
@@ -11,7 +11,7 @@ use Rattle.judge_lines.specs.Clauses.{clause_of}
 use Rattle.serial_replay.specs.declared.replay.Replayed.{Replayed}
 use Rattle.serial_replay.specs.declared.replay.Replayed.TheVariants.{Made, No}
 
--- of the clauses on lines, marks, forms and looks, this clause is the first that fails
+-- the clause is the first that fails among those on lines, marks, forms and looks
 abbrev pub StepsFail : Script → List (List SeenLine) → Clause → Type 0
 StepsFail script t looks_clause = (made : MadeBook script t) × (¬ SeenConforms script t (lists_of made.book))
 StepsFail script t answers_clause = ⊥

@@ -1,4 +1,4 @@
--- The lines of a transcript with the answers and data that were made.
+-- The lines of a transcript, written with the answers and data that were made from their steps.
 use Rattle.std.specs.Prelude.{ℕ, ◌≡◌, ◌≢◌, ⊤, Option, Some, None, List, [], ◌∷◌, map, slice_get}
 use Rattle.key_names.specs.declared.events.Word.{Word}
 use Rattle.key_names.specs.declared.events.Word.TheVariants.{Bits}
@@ -9,7 +9,7 @@ use Rattle.judge_log.specs.declared.said.ShownRecipe.TheVariants.{Nothing, Count
 use Rattle.judge_log.specs.Said.{shown_by}
 use Rattle.judge_vread.specs.Recipe.{bytes_made}
 
--- the bytes of the data
+-- the bytes of a line's data, made from their recipe; none if the data are a number or nothing
 abbrev pub bytes_said : ShownRecipe → List ℕ
 bytes_said Nothing = []
 bytes_said (Count n) = []
@@ -27,7 +27,7 @@ said_into saids [] = []
 said_into [] (lines ∷ t) = lines ∷ said_into [] t
 said_into (said ∷ saids) (lines ∷ t) = lines_said said lines ∷ said_into saids t
 
--- only a line with the word `bits` shows a number, and only lines with other words show bytes
+-- data that the line's word allows: a number only for the word `bits`, and bytes only for other words
 abbrev pub IsFor : Word → Shown → Type 0
 IsFor word no_data = ⊤
 IsFor word (bytes shown) = word ≢ Bits

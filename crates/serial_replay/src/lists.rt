@@ -1,4 +1,4 @@
-//! Makes the lists of the lanes again, from a transcript's lines and steps.
+//! Makes the lists of the lanes again, from the lines and steps of a transcript.
 ghost use Rattle.std.specs.Prelude.{IfOk};
 ghost use Rattle.key_names.specs.Texts.ScriptGrammar.{WellFormed};
 ghost use Rattle.judge_lines.specs.Seen.{seen_callers};
@@ -14,8 +14,8 @@ use judge_log::gather::gather;
 use judge_log::{Lists, replay_lists};
 use std::alloc::{AllocError, Global};
 
-/// What all answers and data of a transcript are made from: the transcript's parts, the setting of each call, and the
-/// kept data of the lanes' lists.
+/// What the answers and data of a transcript are made from: the transcript's parts, the setting of each call, and the
+/// data kept about the visits of each lane.
 #[derive(Drop)]
 pub struct Basis<'a> {
     pub parts: TranscriptParts<'a>,
@@ -27,7 +27,7 @@ pub struct Basis<'a> {
 #[derive(Drop)]
 pub enum FoundLists<'a> {
     Conforms(Basis<'a>),
-    /// The first of the clauses on lines, marks and forms that fails.
+    /// The first clause that fails, among those on lines, marks and forms.
     No(Clause),
 }
 
@@ -36,7 +36,7 @@ pub enum FoundLists<'a> {
 ///
 /// # Errors
 ///
-/// `AllocError` if there is no memory for it.
+/// `AllocError` if there is no memory for the lists.
 pub fn find_lists<'a>(
     alloc: Global,
     script: &'a Script,

@@ -7,8 +7,8 @@ use judge_lines::along::Carry;
 use judge_log::{KeptBase, KeptCpu, Lists};
 use key_names::{LaneId, Mark, Step};
 
-/// Carries the generation that a caller has seen along the caller's steps, in their order. The generation seen is the
-/// greatest that a look found, or that a visit of the base or of a CPU left.
+/// Goes along a caller's steps in their order, and keeps the generation that the caller has seen. This is the greatest
+/// that a look found so far, or that a visit of the base or of a CPU left.
 #[derive(Drop)]
 pub(crate) struct Looks<'a> {
     lists: &'a Lists,

@@ -29,8 +29,8 @@ use judge_log::said::Note;
 use std::alloc::{AllocError, Global};
 use transcript_text::Transcript;
 
-/// The notes of each caller's lines, whether the looks of the transcript are lawful, and the basis of the notes. The
-/// event number of a line is the index of its note.
+/// The notes of each caller's lines, whether the looks of the transcript are lawful, and the lists from which the notes
+/// were made. The note of a line is at the line's event number.
 #[derive(Drop)]
 pub struct Made<'a, T: Drop> {
     pub callers: Vec<Vec<T>>,
@@ -43,11 +43,11 @@ pub struct Made<'a, T: Drop> {
 #[derive(Drop)]
 pub enum Remade<'a, T: Drop> {
     Made(Made<'a, T>),
-    /// The first of the clauses 2, 3 and 4 that fails.
+    /// The first clause that fails, among clauses 2, 3 and 4 (lines, marks and forms).
     No(Clause),
 }
 
-// The notes of each caller's lines. `None` if the steps of some line match no form.
+// The notes of each caller's lines. `None` if the steps of some line match no form of its call.
 fn all_said<N: Note>(
     alloc: Global,
     calls: &[Vec<CalledLines<'_>>],
@@ -116,7 +116,7 @@ fn of_lines<'a, N: Note>(
 ///
 /// # Errors
 ///
-/// `AllocError` if there is no memory for it.
+/// `AllocError` if there is no memory for the notes or the lists.
 pub fn remake<'a, N: Note>(
     alloc: Global,
     script: &'a Script,

@@ -25,11 +25,12 @@ use transcript_text::{CallerLines, LineView, Shown, Transcript};
 #[derive(Drop)]
 pub enum Replayed {
     Made(Transcript),
-    /// The first clause on lines, marks, forms or looks that fails. These clauses do not depend on answers or data.
+    /// The first clause that fails, among those on lines, marks, forms and looks. These clauses do not depend on
+    /// answers or data.
     No(Clause),
 }
 
-// Adds a line.
+// Adds a line to the lines of its caller.
 fn push_line(lines: &mut CallerLines, line: LineView<'_>) -> Result<(), AllocError>
     requires fits { LineFits (seen line) }
     requires short { length (bytes_of line.shown) < 2 ^ 32 }
@@ -40,7 +41,7 @@ fn push_line(lines: &mut CallerLines, line: LineView<'_>) -> Result<(), AllocErr
     Ok(())
 }
 
-// Replaces the content of the buffer by the bytes of a line.
+// Replaces the content of the buffer by the bytes of the data in `said`.
 fn put_bytes(buffer: &mut Vec<u8>, said: &MadeLine) -> Result<(), AllocError>
     ensures bytes { OnOk result (buffer.new.items ≡ bytes_said said.now.shows) }
     ensures short { OnOk result (length buffer.new.items < 2 ^ 32) }
@@ -52,7 +53,7 @@ fn put_bytes(buffer: &mut Vec<u8>, said: &MadeLine) -> Result<(), AllocError>
     }
 }
 
-// The data of a line, with these bytes.
+// The data in `said`; if they are bytes, they are `bytes`.
 fn shown_as<'a>(said: &MadeLine, bytes: &'a [u8]) -> Shown<'a>
     requires bytes { bytes.now ≡ bytes_said said.now.shows }
     requires short { length bytes.now < 2 ^ 32 }
@@ -88,7 +89,7 @@ fn inferred_line<'a>(line: LineView<'a>, said: &MadeLine, bytes: &'a [u8]) -> Li
     }
 }
 
-// Adds a line with the answer and data of `said`. The bytes of the data are put into the buffer first.
+// Adds a line with the answer and data of `said`. The bytes of these data are first put into the buffer.
 fn push_said(
     lines: &mut CallerLines,
     line: LineView<'_>,
@@ -103,7 +104,7 @@ fn push_said(
     push_line(lines, inferred_line(line, said, buffer))
 }
 
-// Adds a line with the answer and data that were made for the number of the line's event.
+// Adds a line with the answer and data that were made for the line's event.
 fn push_made(
     lines: &mut CallerLines,
     line: LineView<'_>,
@@ -164,7 +165,7 @@ fn replay_steps(alloc: Global, script: &Script, steps: &Transcript) -> Result<Re
     if !made.looks_conform {
         return Ok(Replayed::No(Clause::Looks));
     }
-    // The memory of the lists is freed before the lines are written.
+    // Frees the memory of the lists before the lines are written.
     drop(made.basis);
     Ok(Replayed::Made(all_lines(alloc, steps, &made.callers)?))
 }
@@ -174,7 +175,7 @@ fn replay_steps(alloc: Global, script: &Script, steps: &Transcript) -> Result<Re
 ///
 /// # Errors
 ///
-/// `AllocError` if there is no memory for it.
+/// `AllocError` if there is no memory to make the transcript.
 pub fn replay(alloc: Global, script: &Script, steps: &Transcript) -> Result<Replayed, AllocError>
     ensures replay { IfOk result (λ replayed. IsReplay script.now steps.now replayed) }
     ensures made { (t : List (List SeenLine)) → SameSteps steps.now t → IsTranscript script.now t

@@ -17,7 +17,7 @@ use Rattle.serial_replay.proofs.Agreement.{AllAre, all_both}
 use Rattle.transcript_check.specs.declared.compare.Same.{Same}
 use Rattle.transcript_check.specs.Compared.{IsCompared}
 
--- ---- a caller has no line past its last one, and an absent caller has no lines
+-- ---- a caller's list has no line past its last one, and a caller that does not exist has no lines
 
 pub none_after : {X : Type 0} (xs : List X) (n : ℕ) (x : X) → length xs ≤ n → slice_get xs n ≡ Some x → ⊥
 none_after [] n x high is = cc
@@ -30,7 +30,7 @@ none_of_another [] c n x high is = none_after [] n x (omega arith) is
 none_of_another (xs ∷ t) zero n x high is = absurd (omega arith)
 none_of_another (xs ∷ t) (suc c) n x high is = none_of_another t c n x (omega arith) is
 
--- ---- each line is in its caller's list, at the number of its event
+-- ---- each line is in the list of its caller, at the number of its event
 
 abbrev Placed : List (List SeenLine) → ℕ → SeenLine → Type 0
 Placed t c line = slice_get (list_at t c) line.event ≡ Some line
@@ -63,7 +63,7 @@ callers_placed t c (es ∷ ess) (lines ∷ rest) fit among = (
   callers_placed t (suc c) ess rest fit.1 (λ d. among (suc d) ∙ ap (list_at t) (omega arith)),
 )
 
--- ---- the clause on answers holds exactly if each note records that the answer agrees; likewise for data
+-- ---- the clause on answers holds exactly if each note records that the line's answer agrees; likewise for data
 
 abbrev pub AnswerSame : SeenLine → Same → Type 0
 AnswerSame line same = IsTrue same.answer

@@ -1,4 +1,5 @@
--- If a line differs from the result of its steps, no lawful transcript with the same steps contains this line.
+-- If a line differs from the answer or data that its steps give, no lawful transcript with the same steps contains this
+-- line.
 use Rattle.std.proofs.Common.{◌≡◌, ℕ, zero, suc, Some, List, [], ◌∷◌, length, sym, subst, ◌∙◌, inl, inr}
 use Rattle.std.specs.Prelude.{slice_get}
 use Rattle.std.specs.List.{AllByRecursion}
@@ -20,8 +21,8 @@ each_found P [] n x all is = cc
 each_found P (y ∷ xs) zero x all is = subst P (same_Some y x is) all.0
 each_found P (y ∷ xs) (suc n) x all is = each_found P xs n x all.1 is
 
--- if a line of `t` differs from the result of its steps, and all lines of `u` agree with the results, `u` does not have
--- this line
+-- let line `n` of caller `c` in `t` differ from what its steps give, and let all lines of `u` agree with what the steps
+-- of `t` give. Then `u` does not have this line
 none_of : (IsSaid : SeenLine → MadeLine → Type 0) (script : Script) (t u : List (List SeenLine)) (c n : ℕ)
     (has : HasOther IsSaid script t c n) → AllAgree IsSaid (made_by has.made) u →
     slice_get (list_at t c) n ≡ slice_get (list_at u c) n → ⊥

@@ -1,4 +1,4 @@
--- If `P` implies `Q`, and `P` holds of the found line, `Q` also holds of the found line.
+-- If `P` implies `Q`, and `P` holds of the line that a search found (if it found one), `Q` also holds of this line.
 use Rattle.std.proofs.Common.{Option, Some, None}
 use Rattle.std.specs.Prelude.{Result, Ok, Err, IfOk, IfSome}
 use Rattle.transcript_check.specs.declared.place.FailedLine.{FailedLine}

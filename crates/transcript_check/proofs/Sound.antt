@@ -1,4 +1,5 @@
--- The verdict of a check is right: it follows from the answers, data and lists made of the transcript's steps.
+-- The verdict of a check is right: it follows from the answers, data and lists that were made from the transcript's
+-- steps.
 use Rattle.std.proofs.Common.{◌≡◌, ℕ, ◌≤◌, List, [], ◌∷◌, max, refl, subst, ap, arith}
 use Rattle.std.specs.Prelude.{◌↔◌, IsTrue}
 use Rattle.key_names.specs.Lanes.BaseList.{base_after}
@@ -32,7 +33,7 @@ use Rattle.transcript_check.specs.Compared.{IsCompared}
 use Rattle.transcript_check.specs.Judged.{IsSound, IsJudged}
 use Rattle.transcript_check.proofs.Compared.{AnswerSame, DataSame, answers_same, data_same}
 
--- if each look of an order finds at least the generation seen before the look, the looks never fall
+-- if each look of a caller finds at least the generation that the caller has seen before it, the looks never fall
 
 lower : (a b : ℕ) (xs : List ℕ) → a ≤ b → NeverFall (b ∷ xs) → NeverFall (a ∷ xs)
 lower a b [] le h = tt
@@ -111,7 +112,7 @@ module _ (script : Script) (t : List (List SeenLine)) (well : WellFormed script)
       looks = a.looks.0 conform;
     })
 
--- ---- at most one verdict is right
+-- ---- at most one verdict is right for a transcript
 
 pub yes_of : (script : Script) (t : List (List SeenLine)) (v : Verdict) → IsJudged script t v → IsTranscript script t → v ≡ Yes
 yes_of script t Yes j is = refl

@@ -6,7 +6,7 @@ use Rattle.judge_log.specs.declared.said.MadeLine.{MadeLine}
 use Rattle.serial_replay.specs.Agreement.{SameAnswer, SameShown}
 use Rattle.transcript_check.specs.declared.compare.Same.{Same}
 
--- if the event has a line, this part of the line agrees with the result
+-- if the caller has a line for the event, the part `Part` of this line (its answer or its data) agrees with `said`
 abbrev pub SameThere : (SeenLine → MadeLine → Type 0) → List (List SeenLine) → ℕ → ℕ → MadeLine → Type 0
 SameThere Part t caller event said =
     (line : SeenLine) → slice_get (list_at t caller) event ≡ Some line → Part line said

@@ -18,8 +18,9 @@ use Rattle.transcript_check.specs.declared.check.Judged.TheVariants.{Lawful, Unl
 use Rattle.transcript_check.specs.declared.check.Verdict.{Verdict}
 use Rattle.transcript_check.specs.declared.check.Verdict.TheVariants.{Yes, No}
 
--- the transcript is lawful with `book`, and `book` uses no byte of a key twice. The lines show bytes of named keys, and
--- each such byte at most once. Along each caller's order no look is below an earlier look
+-- the transcript is lawful with `book`, and `book` uses no byte of a key's keystream twice. The lines show bytes of
+-- named keys, and each such byte at most once. Along the order of each caller's steps, no look finds a lower generation
+-- than an earlier look
 pub record IsSound (script : Script) (t : List (List SeenLine)) : Type 0 where
   pub book : Book
   pub meanings : List (List CallMeaning)
@@ -37,7 +38,8 @@ abbrev pub verdict_of : Judged → Verdict
 verdict_of (Lawful basis) = Yes
 verdict_of (Unlawful clause) = No clause
 
--- if the verdict is that the transcript is lawful, `basis` has the kept data of lists that match the transcript's lines
+-- if the verdict is that the transcript is lawful, `basis` has the data kept about lists that match the transcript's
+-- lines
 abbrev pub HasLists : Script → List (List SeenLine) → Judged → Type 0
 HasLists script t (Lawful basis) = BasisConforms script t basis
 HasLists script t (Unlawful clause) = ⊤

@@ -1,4 +1,4 @@
--- Whether a line of a transcript differs from the result of its steps.
+-- Whether a line of a transcript differs from the answer or data that its steps give.
 use Rattle.std.specs.Prelude.{ℕ, ◌≡◌, ◌≢◌, Some, List, slice_get, map}
 use Rattle.key_names.specs.Lanes.Book.{list_at}
 use Rattle.key_names.specs.Transcripts.IsTranscript.{IsTranscript}
@@ -10,26 +10,26 @@ use Rattle.judge_log.specs.Said.{itself}
 use Rattle.serial_replay.specs.declared.remake.Made.{Made}
 use Rattle.serial_replay.specs.Remade.{AllMade, made_by}
 
--- the line differs from the result that was made for the number of the line's event
+-- the line differs from the answer or data in `notes` at the number of the line's event
 pub record IsOther (IsSaid : SeenLine → MadeLine → Type 0) (notes : List MadeLine) (line : SeenLine) : Type 0 where
   pub one : MadeLine
   pub said : slice_get notes line.event ≡ Some one
   pub other : IsSaid line one → ⊥
 
--- the caller has a line with this number, and this line differs from its result
+-- the caller whose lines are `lines` has a line with this number, and this line differs from what is in `notes` for it
 pub record IsOtherAt (IsSaid : SeenLine → MadeLine → Type 0) (notes : List MadeLine) (lines : List SeenLine) (number : ℕ) : Type 0 where
   pub line : SeenLine
   pub there : slice_get lines number ≡ Some line
   pub is : IsOther IsSaid notes line
 
--- the caller's line with this number differs from the result of the transcript's steps
+-- the line with this number of this caller differs from the answer or data that the steps of `t` give
 pub record HasOther (IsSaid : SeenLine → MadeLine → Type 0) (script : Script) (t : List (List SeenLine))
     (caller number : ℕ) : Type 0 where
   pub made : Made MadeLine
   pub says : AllMade itself script (map (map bare) t) made
   pub other : IsOtherAt IsSaid (list_at (made_by made) caller) (list_at t caller) number
 
--- no lawful transcript with the same steps has this line
+-- no lawful transcript with the steps of `t` has, at this caller and number, the same line as `t`
 abbrev pub IsReplacedIn : Script → List (List SeenLine) → ℕ → ℕ → Type 0
 IsReplacedIn script t caller number = (u : List (List SeenLine)) → SameSteps t u → IsTranscript script u →
     slice_get (list_at t caller) number ≢ slice_get (list_at u caller) number

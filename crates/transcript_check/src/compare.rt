@@ -1,5 +1,5 @@
-//! Compares each line with the answer and data of its steps, as soon as these are made. Notes whether the line's answer
-//! agrees, and whether its data agree.
+//! Compares each line with the answer and data that its steps give, as soon as these are made. Notes whether the line's
+//! answer agrees, and whether its data agree.
 ghost use Rattle.std.specs.Prelude.{◌≡◌, ◌↔◌, IsTrue, Some, length, slice_get, MatchOption};
 ghost use Rattle.std.specs.List.{AllByRecursion};
 ghost use Rattle.key_names.specs.Lanes.Book.{list_at};
@@ -16,23 +16,23 @@ use judge_log::said::{MadeLine, Note, ShownRecipe};
 use judge_vread::served::Served;
 use transcript_text::{CallerLines, LineView, Shown, Transcript};
 
-/// Whether a line's answer agrees with the answer of its steps, and whether the line's data agree with the data of its
-/// steps.
+/// Whether a line's answer agrees with the answer that its steps give, and whether the line's data agree with the data
+/// that its steps give.
 #[derive(Clone, Copy, Drop)]
 pub(crate) struct Same {
     pub answer: bool,
     pub shown: bool,
 }
 
-/// For each line of the transcript `t`, notes whether the line's answer and data agree with the line's steps.
+/// For each line of the transcript `t`, notes whether the line's answer and data agree with those that its steps give.
 #[derive(Drop)]
 pub(crate) struct Compare<'a> {
     pub t: &'a Transcript,
 }
 
-/// A part of a line: its answer, or its data.
+/// The part of a line that is compared: its answer, or its data.
 pub(crate) trait Part {
-    /// The note records that this part of the line agrees.
+    /// Whether a note records that this part of the line agrees.
     ghost IsSame: { Self → IsLineSame → Type 0 };
 
     fn is_same(&self, same: Same) -> bool
@@ -95,7 +95,7 @@ pub(crate) fn compared(line: LineView<'_>, said: &MadeLine) -> Same
 }
 
 impl Compare<'_> {
-    // The line of an event, if the transcript has it.
+    // The line of an event of a caller, if the transcript has it.
     fn line(&self, caller: u32, event: u32) -> Option<LineView<'_>>
         ensures { MatchOption result
             ((line : SeenLine) → slice_get (list_at self.now.t.now caller) event ≡ Some line → ⊥)
@@ -165,7 +165,7 @@ fn lines_agree<P: Part>(part: &P, lines: &CallerLines, noted: &[Same]) -> bool
     true
 }
 
-/// Whether this part of every line agrees with the line's steps.
+/// Whether this part of every line agrees with the part that the line's steps give.
 pub(crate) fn all_agree<P: Part>(part: &P, t: &Transcript, noted: &[Vec<Same>]) -> bool
     requires { length noted.now ≡ length t.now }
     ensures { IsTrue result ↔ AllAgree (λ _. P.IsSame part.now) (said_lists noted.now) t.now }

@@ -19,7 +19,7 @@ use serial_replay::lists::{FoundLists, find_lists};
 use std::alloc::{AllocError, Global};
 use transcript_text::Transcript;
 
-// The first line with a visit at the wrong place, or with a stamp that does not rise.
+// The first line that has a visit at the wrong place, or a stamp that does not rise.
 fn first_other_mark(
     alloc: Global,
     script: &Script,
@@ -31,7 +31,7 @@ fn first_other_mark(
     }
 }
 
-// The first line with a look that is too low or too high.
+// The first line that has a look of a generation that is too low or too high.
 fn first_other_look(
     alloc: Global,
     script: &Script,
@@ -70,7 +70,7 @@ fn first_other_look(
 ///
 /// # Errors
 ///
-/// `AllocError` if there is no memory for it.
+/// `AllocError` if there is no memory to find it.
 pub fn first_failing_line(
     alloc: Global,
     script: &Script,

@@ -1,5 +1,5 @@
-//! Goes through the visits in the order of their stamps, and finds the first visit that cannot follow the earlier
-//! visits in any lists.
+//! Goes through the visits in the order of their stamps, and finds the first visit such that no lawful lists match the
+//! inferred rows up to this visit.
 ghost use Rattle.std.specs.Prelude.{◌≡◌, ℕ, IfOk, length, take};
 ghost use Rattle.judge_log.specs.Tables.{InRange, tables_of};
 ghost use Rattle.transcript_check.specs.Rows.{AreWide};
@@ -12,7 +12,7 @@ use judge_log::{InferredCpu, InferredEntries, InferredPool, replay_lists};
 use key_names::{BaseEntry, LaneId, PoolNote};
 use std::alloc::{AllocError, Global};
 
-/// For each lane, how many of its first inferred rows are kept.
+/// How many rows of each lane's table of inferred entries are kept, counted from the first row.
 #[derive(Drop)]
 struct Ends {
     pool: usize,
@@ -21,7 +21,7 @@ struct Ends {
 }
 
 impl Ends {
-    // Keeps the rows of these visits.
+    // Keeps the first rows of each lane: one row for each visit of this lane in `visits`.
     fn of(alloc: Global, cpus: usize, visits: &[VisitOf]) -> Result<Ends, AllocError> {
         let mut ends = Ends {
             pool: 0,
@@ -50,7 +50,7 @@ impl Ends {
         }
     }
 
-    // Also keeps the rows up to each place that a kept extraction or a kept refill names.
+    // Also keeps the rows up to each place that an extraction or a refill in the kept rows names.
     fn reach_named(&mut self, inferred: &InferredEntries<'_>) {
         for row in inferred.pool.iter().take(self.pool) {
             if let InferredPool::Is(PoolNote::Extract { base_place, .. }) = row {
@@ -91,7 +91,7 @@ fn cut_lanes(
     Ok(cut)
 }
 
-// Whether some lists match the rows of these visits, and the rows up to each place that these rows name.
+// Whether some lawful lists match the rows of these visits, with the rows up to each place that these rows name.
 fn begins(
     alloc: Global,
     inferred: &InferredEntries<'_>,
@@ -110,8 +110,8 @@ fn begins(
     Ok(lists.is_some())
 }
 
-// Finds by bisection a number of visits, counted from the first. Some lists begin with the rows of these visits, but no
-// lists begin with the rows of one visit more.
+// Finds by bisection a number of visits, counted from the first. Some lawful lists match the rows of these visits, but
+// none match the rows of one visit more.
 fn most_visits(
     alloc: Global,
     inferred: &InferredEntries<'_>,
@@ -132,8 +132,8 @@ fn most_visits(
     Ok(least)
 }
 
-/// Goes through the visits in the order of their stamps. Returns the line of the first visit such that no lists begin
-/// with the inferred rows up to this visit. This is tested, not proved. The whole tables must match no lists.
+/// Goes through the visits in the order of their stamps. Returns the line of the first visit such that no lawful lists
+/// match the inferred rows up to this visit. This is tested, not proved. No lawful lists may match the whole tables.
 pub(crate) fn first_other_entry(
     alloc: Global,
     inferred: &InferredEntries<'_>,

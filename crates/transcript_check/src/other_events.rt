@@ -5,8 +5,8 @@ use event_script::Script;
 use judge_lines::bare::BareLine;
 use key_names::Word;
 
-// The word that a caller's line with this number must have. None if the script has neither an event nor the caller's
-// end at this number.
+// The word that the line with this number of this caller must have. None if the script has neither an event nor the
+// caller's end at this number.
 fn word_at(script: &Script, caller: u32, number: usize) -> Option<Word> {
     if caller >= script.callers() {
         return None;
@@ -23,7 +23,7 @@ fn is_line(line: &BareLine<'_>, caller: u32, event: usize, word: Word) -> bool {
     line.caller == caller && line.event as usize == event && line.word == word
 }
 
-// The line that was expected at this number among a caller's lines. None if `line` is the expected line.
+// The line that was expected at this number among the caller's lines. None if `line` is that line.
 fn expected_at(
     script: &Script,
     caller: u32,

@@ -33,7 +33,7 @@ fn has_absent(cpus: u32, steps: &[Step]) -> bool {
     false
 }
 
-// The first line that visits a CPU which the script does not have.
+// The first line that visits a CPU that the script does not have.
 fn first_absent(cpus: u32, callers: &[Vec<BareLine<'_>>]) -> Option<FailedLine> {
     for lines in callers {
         for (line, bare) in lines.iter().enumerate() {
@@ -49,8 +49,8 @@ fn first_absent(cpus: u32, callers: &[Vec<BareLine<'_>>]) -> Option<FailedLine> 
     None
 }
 
-// Whether the steps of these calls match forms. The answers and data made from the steps are dropped, so the caller's
-// number does not matter.
+// Whether the steps of each of these calls match a form of the call. The answers and data made from the steps are
+// dropped, so the caller's number does not matter.
 fn are_forms(
     alloc: Global,
     calls: &[CalledLines<'_>],
@@ -63,8 +63,8 @@ fn are_forms(
     Ok(said.is_some())
 }
 
-// Finds by bisection a number of calls, counted from the caller's first. The steps of these calls match forms, but the
-// steps of the next call match no form.
+// Finds by bisection a number of calls, counted from the caller's first. The steps of each of these calls match a form,
+// but the steps of the next call match none.
 fn most_forms(
     alloc: Global,
     calls: &[CalledLines<'_>],
@@ -140,13 +140,13 @@ fn first_of_all(
     Ok(None)
 }
 
-/// The first line that visits an absent CPU. If there is none, the line of the first visit at which the lane allows no
-/// entry that fits the line's steps. If there is none, the first line with steps that match no form. This is tested,
-/// not proved. The clauses on lines and marks must hold.
+/// The first line that visits a CPU that does not exist. If there is none, the line of the first visit at which the
+/// lane allows no entry that fits the line's steps. If there is none, the first line with steps that match no form.
+/// This is tested, not proved. The clauses on lines and marks must hold.
 ///
 /// # Errors
 ///
-/// `AllocError` if there is no memory for it.
+/// `AllocError` if there is no memory to find it.
 pub(crate) fn first_other_form(
     alloc: Global,
     script: &Script,

@@ -16,15 +16,15 @@ use serial_replay::remake::{Remade, remake};
 use std::alloc::{AllocError, Global};
 use transcript_text::{CallerLines, LineView, Transcript};
 
-/// A part of a line that its steps determine.
+/// The part of a line that is compared with the one that the line's steps give: its answer, or its data.
 pub(crate) trait SaidPart {
-    /// This part of the line agrees with the result of the line's steps.
+    /// Whether this part of a line agrees with what was made from the line's steps.
     ghost IsSaid: { Self → SeenLine → SaidOfLine → Type 0 };
 
     fn is_said(&self, line: LineView<'_>, said: &MadeLine) -> bool
         ensures { IsTrue result ↔ IsSaid self.now (seen line.entry) said.now };
 
-    /// The expected part of the line.
+    /// This part as it was made from the line's steps.
     fn expected(&self, alloc: Global, said: &MadeLine) -> Result<Expected, AllocError>;
 }
 
@@ -69,7 +69,7 @@ fn is_other<P: SaidPart>(part: &P, line: LineView<'_>, said: &[MadeLine]) -> boo
     }
 }
 
-// The number of a caller's first line that differs from the result made for the line's event.
+// The number of a caller's first line that differs from the answer or data made for the line's event.
 fn first_of_caller<P: SaidPart>(part: &P, lines: &CallerLines, said: &[MadeLine]) -> Option<usize>
     ensures { IfSome result (IsOtherAt (P.IsSaid part.now) said.now lines.now.lines) }
 {
@@ -81,7 +81,7 @@ fn first_of_caller<P: SaidPart>(part: &P, lines: &CallerLines, said: &[MadeLine]
     None
 }
 
-// The expected part of a caller's line.
+// The part of a caller's line as it was made from the line's steps.
 fn expected_of<P: SaidPart>(
     alloc: Global,
     part: &P,
@@ -124,7 +124,7 @@ fn first_of_all<P: SaidPart>(
 ///
 /// # Errors
 ///
-/// `AllocError` if there is no memory for it.
+/// `AllocError` if there is no memory to find it.
 pub(crate) fn first_other<P: SaidPart>(
     alloc: Global,
     script: &Script,

@@ -9,7 +9,7 @@ use judge_log::Lists;
 use key_names::{Event, LaneId, Mark, Point, Step};
 use std::alloc::{AllocError, Global};
 
-/// The kind of value that is carried along a caller's steps. Each step is compared with the carried value.
+/// What is carried along a caller's steps, to compare each step with it: a stamp, or a generation.
 #[derive(Clone, Copy)]
 pub(crate) enum Carried<'a> {
     /// The stamp of the caller's last visit.
@@ -29,7 +29,7 @@ fn left_by(lists: &Lists, mark: Mark) -> Option<u64> {
 }
 
 impl Carried<'_> {
-    // The step that was expected instead of `step`. None if `step` may follow.
+    // The step that was expected instead of `step`. None if `step` may follow a caller's earlier steps.
     fn expected(&self, carried: Option<u64>, step: Step) -> Option<Expected> {
         match (*self, step) {
             (Carried::Stamp, Step::Visit(mark)) => {
@@ -67,7 +67,7 @@ impl Carried<'_> {
     }
 }
 
-/// A caller after some of its steps: the value carried so far, and the first line that failed.
+/// How far the search is in a caller's steps: the value carried so far, and the first line that failed.
 #[derive(Drop)]
 struct CallerPosition<'a> {
     how: Carried<'a>,
@@ -77,7 +77,8 @@ struct CallerPosition<'a> {
 }
 
 impl CallerPosition<'_> {
-    // Carries the value along these steps of a line, and compares each step with the value.
+    // Carries the value along these steps of the caller's line with the number `line`, and compares each step with the
+    // value.
     fn go(&mut self, line: usize, steps: &[Step]) {
         for step in steps {
             if self.found.is_none() {
@@ -141,7 +142,7 @@ fn rekey_end(steps: &[Step]) -> usize
     if steps.len() > 2 { steps.len() } else { 0 }
 }
 
-// The number of steps up to and including the first visit.
+// The number of steps up to and including the first visit in `steps`, or of all steps if there is no visit.
 fn first_visit_end(steps: &[Step]) -> usize
     ensures { result ≤ length steps.now }
 {
@@ -164,7 +165,7 @@ fn vreads_end(events: &[Event]) -> usize {
     end
 }
 
-/// The value that a child begins with.
+/// The value that is carried to the first step of a child.
 #[derive(Clone, Copy)]
 struct Start {
     child: u32,
@@ -180,7 +181,7 @@ fn start_of(starts: &[Start], caller: u32) -> Option<u64> {
     None
 }
 
-// Carries the value along the lines of a caller, and notes the value that each of its children begins with.
+// Carries the value along the lines of a caller, and notes the value that is carried to each of its children.
 fn go_along(
     alloc: Global,
     path: &mut CallerPosition<'_>,
@@ -215,8 +216,8 @@ fn go_along(
     Ok(())
 }
 
-/// The first line with a step that the value carried to this step does not allow. The callers are searched in order,
-/// and `callers` must have the lines of each caller. This is tested, not proved.
+/// The first line with a step that the value carried to it does not allow. The callers are searched in order, and
+/// `callers` must have the lines of each caller. This is tested, not proved.
 pub(crate) fn first_off_path(
     alloc: Global,
     script: &Script,

@@ -1,4 +1,4 @@
-//! The failing line of a transcript, and the expected one.
+//! The failing line of a transcript, and the line or part that was expected there.
 
 use key_names::{Answer, Mark, Word};
 
@@ -13,23 +13,23 @@ pub enum Expected {
     },
     /// No line: the script has no such event.
     NoLine,
-    /// A visit at this place instead of the line's own visit, with the same stamp.
+    /// A visit at this place, instead of the place of the line's visit with the same stamp.
     Place(Mark),
-    /// A visit with a stamp above this one.
+    /// A visit with a stamp above this number.
     StampAbove(u64),
-    /// A CPU below this number.
+    /// A visit of a CPU with a number below this one.
     CpuBelow(u32),
     /// Another entry at this visit: the line's steps fit no entry that its lane allows there.
     Entry(Mark),
-    /// Other steps.
+    /// Steps that match a form: those of the line match none.
     Steps,
-    /// This answer.
+    /// This answer, instead of the line's.
     Answer(Answer),
-    /// No data.
+    /// No data, though the line has some.
     NoData,
-    /// This number of bits.
+    /// This number of bits as the data.
     Count(u32),
-    /// These bytes.
+    /// These bytes as the data.
     Bytes(Vec<u8>),
     /// A look that finds a generation from `least` to `most`.
     Look {
@@ -38,7 +38,7 @@ pub enum Expected {
     },
 }
 
-/// A line of a transcript that fails, with the part or the line that was expected.
+/// A failing line of a transcript, with the part or the line that was expected there.
 #[derive(Drop)]
 pub struct FailedLine {
     pub caller: u32,

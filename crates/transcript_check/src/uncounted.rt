@@ -5,7 +5,7 @@ use judge_lines::bare::BareLine;
 use key_names::{LaneId, Mark, Step};
 use std::alloc::{AllocError, Global};
 
-/// A visit, and its line.
+/// A visit's mark, with the caller and the line of the visit.
 #[derive(Clone, Copy)]
 pub(crate) struct VisitOf {
     pub(crate) mark: Mark,
@@ -13,7 +13,7 @@ pub(crate) struct VisitOf {
     pub(crate) line: usize,
 }
 
-// The rank of a lane: the pool, the base, and then the CPUs.
+// A lane's place in the order of lanes: the pool, the base, and then the CPUs.
 fn lane_rank(lane: LaneId) -> u64 {
     match lane {
         LaneId::Pool => 0,

@@ -1,4 +1,4 @@
--- The answers and data of the acts inside a vread are noted one by one, and then the vread's own answer and data.
+-- For a vread, the code notes the answer and data of each act inside it, and then the vread's own answer and data.
 use Rattle.std.proofs.Common.{◌≡◌, ℕ, ◌+◌, ◌<◌, Bool, true, false, List, [], ◌∷◌, ◌++◌, length, get_or, take, map, refl, sym, subst, ap, ◌∙◌, Some, None}
 use Rattle.std.specs.Prelude.{Option, MatchBool}
 use Rattle.std.specs.List.{AllByRecursion}
@@ -60,7 +60,7 @@ module _ (kept : KeptLists) (set : Setting) (reached : Reached) where
       subst (λ ws. Written IsNoted ws old new) e
       (written_more IsNoted (map w so_far) (w (seen_act a) ∷ []) old mid new before (new, here, refl))
 
--- ---- a vread
+-- ---- a vread with its acts
 
 none_some : {X : Type 0} (x : X) → None ≡ Some x → ⊥
 none_some x e = cc

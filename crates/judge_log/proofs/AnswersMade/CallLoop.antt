@@ -1,4 +1,4 @@
--- The loop over a caller's calls: after n calls, the first n calls have answers and data, which are noted.
+-- The loop over a caller's calls: after n rounds, the answers and data of the first n calls are noted.
 use Rattle.std.proofs.Common.{◌≡◌, ℕ, zero, suc, ◌+◌, ◌<◌, min, List, [], ◌∷◌, ◌++◌, length, get_or, take, drop, refl, sym, subst, ap, ◌∙◌, arith, append_assoc}
 use Rattle.std.proofs.lemmas.List.{append-nil, drop_more, length-take-le}
 use Rattle.key_names.specs.Callers.Calls.{Setting, Call, alone, vread_call, unbound, ending}
@@ -17,7 +17,7 @@ module _ {Noted : Type 0} (IsNoted : ℕ → MadeLine → Noted → Type 0) wher
       (put.0, put.1, written_more writes more put.0 mid new put.2 later)
 
 module _ (kept : KeptLists) where
-  -- a call and the vgetrandom states before it determine the states after it
+  -- a call, its setting and the vgetrandom states before it determine the vgetrandom states after it
   pub determined : (set : Setting) (call : Call) (s t u : VStates) (writes more : List Write) →
       CallSaid kept set call s t writes → CallSaid kept set call s u more → t ≡ u
   determined set (alone event line) s t u writes more one other = one.new_is ∙ sym other.new_is
@@ -50,13 +50,13 @@ module _ (kept : KeptLists) where
   )
 
   module _ (sets : List Setting) (calls : List Call) where
-    -- the first n calls have answers and data, and these are noted
+    -- the first n calls have answers and data, and `notes` has them; `here` are the vgetrandom states after the n calls
     abbrev pub SoFar : {Noted : Type 0} → (ℕ → MadeLine → Noted → Type 0) → ℕ → VStates → List Noted → Type 0
     SoFar IsNoted n here notes =
         (writes : List Write) × CallsSaid kept (take n sets) (take n calls) first_states here writes
         × Written IsNoted writes [] notes
 
-    -- the calls after the first n have some answers and data
+    -- the calls after the first n have some answers and data, starting with the vgetrandom states `here`
     abbrev pub Left : ℕ → VStates → Type 0
     Left n here = (end : VStates) × (rest : List Write) × CallsSaid kept (drop n sets) (drop n calls) here end rest
 

@@ -50,18 +50,18 @@ use Rattle.judge_log.proofs.AnswersMade.MetSays.{all_seen, kinds_are, looks_fit,
 abbrev pub standing : Setting → VStates → CallerState
 standing set s = record { setting = set; states = s.states; current = s.current }
 
--- the looks of a vread are below 2^63
+-- if the call is a vread, the generations that its looks found are below 2^63
 abbrev pub CallLooks : Call → Type 0
 CallLooks (alone event line) = ⊤
 CallLooks (vread_call n flags line acts) = AllByRecursion StepFits line.steps
 CallLooks (unbound bound) = ⊤
 CallLooks (ending line) = ⊤
 
--- `At` holds of the event number in `w`, with the answer and data in `w`
+-- `At` holds of the event number in the write `w`, with the answer and data in `w`
 abbrev pub IsSaidIn : (ℕ → MadeLine → Type 0) → Write → Type 0
 IsSaidIn At w = At w.event w.said
 
--- the steps of the line have the effects in the meaning `m`
+-- by the lists `book`, the steps of `line` have the effects in the meaning `m`
 abbrev pub HasEffects : Lists → SeenLine → LineMeaning → Type 0
 HasEffects book line m = effects_of book line.steps ≡ m.effects
 
@@ -82,7 +82,8 @@ module _ (kept : KeptLists) (book : Lists) (keeps : Keeps kept book) (lawful : L
   kinds_at cpu steps = kinds_are cpu (met_in kept steps) (effects_of book steps) (met_are steps)
 
   module _ (At : ℕ → MadeLine → Type 0) where
-    -- a call with answers and data has a meaning; `s` and `t` are the vgetrandom states before and after the call
+    -- the call has a meaning with the answers and data `writes`; `s` and `t` are the vgetrandom states before and after
+    -- the call
     pub record CallMeant (set : Setting) (call : Call) (s t : VStates) (writes : List Write) : Type 0 where
       pub m : CallMeaning
       pub before : m.before ≡ standing set s
@@ -96,7 +97,7 @@ module _ (kept : KeptLists) (book : Lists) (keeps : Keeps kept book) (lawful : L
       first_said w is all =
           let P : List Write → Type 0 = λ ws. AllByRecursion (IsSaidIn At) ws in (subst P is all).0
 
-      -- ---- a single event
+      -- ---- a call that is a single event
 
       alone_meant : (event : Event) (line : SeenLine) → CallFills book set (alone event line) →
           AloneSaid kept set event line s t writes → CallMeant set (alone event line) s t writes
@@ -132,7 +133,7 @@ module _ (kept : KeptLists) (book : Lists) (keeps : Keeps kept book) (lawful : L
             };
           }
 
-      -- ---- the end
+      -- ---- a caller's end, which is its last call
 
       ending_meant : (line : SeenLine) → CallFills book set (ending line) → EndingSaid kept set line s t writes →
           CallMeant set (ending line) s t writes
@@ -164,7 +165,7 @@ module _ (kept : KeptLists) (book : Lists) (keeps : Keeps kept book) (lawful : L
             };
           }
 
-      -- ---- an act that no vread follows
+      -- ---- a call that is an act without a vread
 
       unbound_meant : (bound : BoundAct) → UnboundSaid kept set bound s t writes → CallMeant set (unbound bound) s t writes
       unbound_meant bound said = record {
@@ -187,7 +188,7 @@ module _ (kept : KeptLists) (book : Lists) (keeps : Keeps kept book) (lawful : L
         };
       }
 
-    -- ---- acts inside a vread
+    -- ---- the acts inside a vread
 
     module _ (set : Setting) (reached : Reached) where
       abbrev act_meaning : Bool → BoundAct → LineMeaning
@@ -261,7 +262,7 @@ module _ (kept : KeptLists) (book : Lists) (keeps : Keeps kept book) (lawful : L
       acts_say (bound ∷ acts) all =
           (act_says_it bound (includes reached bound.point) all.0, acts_say acts all.1)
 
-    -- ---- a vread
+    -- ---- a call that is a vread
 
     vread_meant : (set : Setting) (s t : VStates) (writes : List Write) (n flags : ℕ) (line : SeenLine)
         (acts : List BoundAct) → AllByRecursion StepFits line.steps → CallFills book set (vread_call n flags line acts) →

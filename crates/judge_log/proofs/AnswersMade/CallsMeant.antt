@@ -1,5 +1,5 @@
--- If the code makes answers and data for a caller's calls, the calls have meanings with these answers and data, and
--- conversely.
+-- The code makes certain answers and data for a caller's calls exactly if the calls have meanings with the same answers
+-- and data.
 use Rattle.std.proofs.Common.{◌≡◌, ℕ, suc, List, [], ◌∷◌, ◌++◌, map, refl, sym, subst, ap, ◌∙◌}
 use Rattle.std.specs.Prelude.{true, false, if◌then◌else◌, Option, Some, None, MatchOption, IfSome, IsSome}
 use Rattle.std.specs.Global.{Vec}
@@ -28,7 +28,7 @@ use Rattle.judge_log.proofs.AnswersMade.CallMeant.{standing, CallLooks, IsSaidIn
 use Rattle.judge_log.proofs.AnswersMade.MeantSaid.{meant_said}
 use Rattle.judge_log.proofs.AnswersMade.Numbers.{act_number, call_numbers, numbers, Distinct, all_there, distinct_from}
 
--- ---- the event numbers of writes
+-- ---- the event numbers of the answers and data
 
 abbrev event_of : Write → ℕ
 event_of w = w.event
@@ -95,7 +95,7 @@ module _ (kept : KeptLists) (book : Lists) (keeps : Keeps kept book) (lawful : L
       let more = meant_calls (setting_after_call set call) calls ms one.t looks.1 (subst P one.after means.2) effects.1 in
       (more.0, one.writes ++ more.1, (one.t, one.writes, more.1, one.said, more.2, refl))
 
--- ---- looks of lines, and of calls
+-- ---- the looks of lines, and of the calls that group these lines
 
 looks_from : (c n : ℕ) (waiting : List BoundAct) (events : List Event) (lines : List SeenLine) →
     LinesFit c n events lines → AllByRecursion (λ line. AllByRecursion StepFits line.steps) lines →

@@ -1,4 +1,4 @@
--- If events are in range, the calls that group these events are in range.
+-- If a caller's events are in range, the calls that group these events are in range.
 use Rattle.std.proofs.Common.{ℕ, true, false, List, [], ◌∷◌, ◌++◌}
 use Rattle.std.specs.Prelude.{if◌then◌else◌}
 use Rattle.std.specs.List.{AllByRecursion}

@@ -41,7 +41,8 @@ no_steps_of book [] none = refl
 no_steps_of book (step ∷ steps) none = cc
 
 module _ (kept : KeptLists) (book : Lists) (keeps : Keeps kept book) (lawful : LawfulLanes book) where
-  -- the code makes the answers and data `writes` for `call`, and the states `t` after it are those of the meaning `m`
+  -- the code makes the answers and data `writes` for `call`; the vgetrandom states `t` after the call are those of the
+  -- meaning `m`
   pub record MeantSaid (set : Setting) (call : Call) (s : VStates) (m : CallMeaning) : Type 0 where
     pub t : VStates
     pub writes : List Write

@@ -43,7 +43,7 @@ use Rattle.judge_log.specs.declared.met.KeptStep.TheVariants.{Looked, InPool, In
 use Rattle.judge_log.specs.Met.{lane_met, mark_met, met_at, met_in}
 use Rattle.judge_log.specs.EventSays.{taken_recipe, base_recipe, cpu_recipe}
 
--- ---- the bytes of a visit
+-- ---- the bytes that a visit serves
 
 taken_made : (key : List ℕ) (taken : Taken) → taken_bytes key taken ≡ bytes_made (taken_recipe key taken)
 taken_made key (User n) = sym (user_bytes key n)
@@ -81,7 +81,7 @@ short_batch (suc w) count low =
     let more : suc w * suc count ≤ suc w * (96 / suc w) = mul-le-mul_left (suc w) low in
     let is : suc w * suc count ≡ suc w * count + suc w = mul-suc (suc w) count in omega arith
 
--- if an integer need not fill its batch, the batch has served fewer than 96 bytes
+-- if an integer need not fill its batch, the batch has served fewer than 96 of its 96 bytes
 has_bytes : (look width : ℕ) (fill : Fill) → false ≡ must_fill look width (Some fill) → nat_lt (width * fill.count) 96 ≡ true
 has_bytes look width fill h =
     let low : width * fill.count < 96 =
@@ -114,9 +114,9 @@ module _ (book : Lists) (c : ℕ) (fills : ℕ → Option Fill) (place : ℕ) wh
       (tt, int_made look width refill (fills width) (fit.fills ∙ ap (λ f. must_fill look width (f width)) same))
   cpu_made s _ same fit = (tt, refl)
 
--- ---- a step
+-- ---- the kept data of one step
 
--- the kept data of a step match the step's look or visit
+-- the data that the replay kept about a step match the step's effect, a look or a visit
 abbrev pub IsMet : KeptStep → Effect → Type 0
 IsMet (Looked g) (looked found) = g ≡ found
 IsMet (InPool k) (at_pool v) = KeepsPool k v

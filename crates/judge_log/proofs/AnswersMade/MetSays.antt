@@ -1,4 +1,5 @@
--- From the kept data of steps, the code makes the answers and data that the definitions make from the steps' effects.
+-- From the data kept about a line's steps, the code makes the answer and data that the definitions derive from the
+-- effects of these steps.
 use Rattle.std.proofs.Common.{◌≡◌, ℕ, suc, ◌-◌, ◌<◌, Bool, true, false, List, [], ◌∷◌, length, refl, sym, subst, ap, ◌∙◌, arith, Some, None}
 use Rattle.std.specs.Prelude.{◌==◌, ◌^◌, ⊤, Option, slice_get, unwrap_or, if◌then◌else◌}
 use Rattle.std.specs.List.{AllByRecursion}
@@ -41,7 +42,7 @@ use Rattle.judge_log.specs.EventSays.{event_shows}
 use Rattle.judge_log.specs.Said.{shown_by}
 use Rattle.judge_log.proofs.AnswersMade.MetEffects.{MetBase, MetCpu, IsMet, AreMet}
 
--- ---- visits about which the data `k` are kept
+-- ---- a visit about which the data `k` are kept
 
 pub record OfPool (k : KeptPool) : Type 0 where
   pub v : PoolVisit
@@ -97,7 +98,7 @@ shaped (m ∷ met) (d ∷ ds) h =
     let p = one m d h.0 in
     let r = shaped met ds h.1 in ((p.0, r.0), both d (effect m p.0) ds (effects_in met r.0) p.1 r.1)
 
--- ---- seen steps
+-- ---- the seen steps of a line (kinds, found generations and keys)
 
 module _ (cpu : ℕ) where
   look_is : (g : ℕ) (b : Bool) → (g == 0) ≡ b → IsSeen cpu (if b then Unready else Ready g) (looked g)
@@ -134,7 +135,7 @@ module _ (cpu : ℕ) where
   pub kinds_are : (met : List KeptStep) (ds : List Effect) → AreMet met ds → kinds_met cpu met ≡ kinds_of cpu ds
   kinds_are met ds h = sym (map-map seen_kind (seen_of cpu) met) ∙ sym (kinds_seen cpu (seen_in cpu met) ds (all_seen met ds h))
 
-  -- ---- looks
+  -- ---- the generations in the seen steps
 
   look_fits : (g : ℕ) (b : Bool) → g < 2 ^ 63 → LookFits (if b then Unready else Ready g)
   look_fits g true low = tt
@@ -177,7 +178,7 @@ module _ (cpu : ℕ) where
     looks_fit [] fits = tt
     looks_fit (step ∷ steps) fits = (step_fits step fits.0, looks_fit steps fits.1)
 
--- ---- answers and data
+-- ---- the answer and data of a line
 
 crossing_in : (met : List KeptStep) (s : Shape met) → crossing_of (first_crossing met) ≡ facts.first_crossing (effects_in met s)
 crossing_in [] s = refl

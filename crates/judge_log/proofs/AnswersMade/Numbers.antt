@@ -21,7 +21,7 @@ abbrev pub Distinct : List ℕ → Type 0
 Distinct [] = ⊤
 Distinct (n ∷ ns) = AllByRecursion (Differs n) ns × Distinct ns
 
--- ---- if notes are put at different numbers, all of them remain
+-- ---- if notes are put at different event numbers, all of them remain
 
 each_mapped : {A : Type 0} (f : A → ℕ) (P : ℕ → Type 0) (xs : List A) → AllByRecursion P (map f xs) →
     AllByRecursion (λ x. P (f x)) xs
@@ -49,7 +49,7 @@ module _ {Noted : Type 0} (IsNoted : ℕ → MadeLine → Noted → Type 0) wher
         all_there writes put.0 new put.2 distinct.1,
       )
 
--- ---- the numbers of calls
+-- ---- the event numbers in a caller's calls
 
 abbrev pub act_number : BoundAct → ℕ
 act_number bound = bound.line.event
@@ -70,7 +70,7 @@ distinct_parts [] ys one two apart = two
 distinct_parts (x ∷ xs) ys one two apart =
     (each_append (Differs x) xs ys one.0 apart.0, distinct_parts xs ys one.1 two apart.1)
 
--- the numbers of the waiting acts are below the number of the next line
+-- each of the acts `waiting`, which are not yet in a call, has an event number below `n`
 abbrev Waits : ℕ → List BoundAct → Type 0
 Waits n waiting = AllByRecursion (λ k. k < n) (map act_number waiting)
 
@@ -80,7 +80,7 @@ all_below n ns all = each_weaker (λ k. k < n) (λ k. k < suc n) ns (λ k low. o
 all_differ : (n : ℕ) (ns : List ℕ) → AllByRecursion (λ k. k < n) ns → AllByRecursion (Differs n) ns
 all_differ n ns all = each_weaker (λ k. k < n) (Differs n) ns (λ k low is. omega arith) all
 
--- if all numbers in a list are above n, each of them differs from a number k that is at most n
+-- if all numbers in `ns` are above `n`, and `k` is at most `n`, each number in `ns` differs from `k`
 all_above : (n k : ℕ) (ns : List ℕ) → k ≤ n → AllByRecursion (λ m. n < m) ns → AllByRecursion (Differs k) ns
 all_above n k ns low all = each_weaker (λ m. n < m) (Differs k) ns (λ m high is. omega arith) all
 
@@ -88,7 +88,8 @@ waits_more : (waiting : List BoundAct) (bound : BoundAct) →
     map act_number (waiting ++ bound ∷ []) ≡ map act_number waiting ++ bound.line.event ∷ []
 waits_more waiting bound = map-append act_number waiting (bound ∷ [])
 
--- if P holds of the waiting acts' numbers and of all numbers from n on, P holds of the numbers of the calls
+-- if P holds of the event numbers of the acts `waiting` and of all numbers from `n` on, P holds of all event numbers in
+-- the calls
 each_number : (P : ℕ → Type 0) (c n : ℕ) (waiting : List BoundAct) (events : List Event) (lines : List SeenLine) →
     LinesFit c n events lines → AllByRecursion P (map act_number waiting) → ((k : ℕ) → n ≤ k → P k) →
     AllByRecursion P (numbers (calls_from waiting events lines))
@@ -115,8 +116,8 @@ each_number P c n waiting (event ∷ events) (line ∷ lines) fit wait above = (
   each_number P c (suc n) waiting events lines fit.1 wait (λ k high. above k (omega arith)),
 )
 
--- if the numbers of the later calls are distinct, they are also distinct from the number `n` of a single event's line
--- before them
+-- if a single event's line has number `n`, and the numbers in the calls after it are distinct, all these numbers with
+-- `n` are distinct
 one_first : (c n : ℕ) (waiting : List BoundAct) (events : List Event) (lines : List SeenLine) (line : SeenLine) →
     line.event ≡ n → LinesFit c (suc n) events lines → Waits n waiting →
     Distinct (numbers (calls_from waiting events lines)) → Distinct (line.event ∷ numbers (calls_from waiting events lines))

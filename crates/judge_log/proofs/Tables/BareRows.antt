@@ -28,7 +28,8 @@ module _ {T : Type 0} where
   abbrev pub items_of : List (Vec T Global) → List (List T)
   items_of vecs = map (λ (v : Vec T Global). v.items) vecs
 
-  -- if no lane has rows and a lane without rows is added, still no lane has rows
+  -- if all vectors in `vecs` are without rows and `v`, also without rows, is appended, all vectors are still without
+  -- rows
   pub bare_more : (vecs : List (Vec T Global)) (v : Vec T Global) → v.items ≡ [] →
       ((c : ℕ) → list_at (items_of vecs) c ≡ []) → (c : ℕ) → list_at (items_of (vecs ++ v ∷ [])) c ≡ []
   bare_more [] v none bare zero = none
@@ -36,7 +37,7 @@ module _ {T : Type 0} where
   bare_more (x ∷ vecs) v none bare zero = bare 0
   bare_more (x ∷ vecs) v none bare (suc c) = bare_more vecs v none (λ d. bare (suc d)) c
 
-  -- if the vector of a lane is replaced, this lane has the new rows, and no other lane changes
+  -- if the vector of CPU `c` is replaced by `v`, CPU `c` has the rows of `v`, and no other CPU's rows change
   pub lane_set : (vecs : List (Vec T Global)) (c : ℕ) (v : Vec T Global) → c < length vecs →
       list_at (items_of (slice_set vecs c v)) c ≡ v.items
   lane_set [] c v low = absurd (omega arith)
@@ -51,7 +52,8 @@ module _ {T : Type 0} where
   lane_kept (x ∷ vecs) (suc c) zero v other = refl
   lane_kept (x ∷ vecs) (suc c) (suc d) v other = lane_kept vecs c d v (λ e. other (ap suc e))
 
--- after the mark at index `i` is passed, its lane has one mark fewer left, and each other lane has as many as before
+-- let `of` be the mark at index `i`. After it, its own lane has one mark fewer left than before it, and each other lane
+-- has as many
 pub marks_left : (lane : LaneId) (marks : List MarkOf) (i : ℕ) (of : MarkOf) → slice_get marks i ≡ Some of →
     length (lane_marks lane (map seen_mark (drop i marks)))
     ≡ (if is_same_lane of.mark.lane lane then suc (length (lane_marks lane (map seen_mark (drop (suc i) marks))))
@@ -75,11 +77,11 @@ set_long [] c v = refl
 set_long (x ∷ vecs) zero v = refl
 set_long (x ∷ vecs) (suc c) v = ap suc (set_long vecs c v)
 
--- the tables whose CPU rows are in the vectors `vecs`
+-- the tables with `pool` and `base` as they are given, and with the rows of the CPUs from the vectors `vecs`
 abbrev pub with_lanes : List InferredPool → List BaseInferred → List (Vec InferredCpu Global) → Tables
 with_lanes pool base vecs = record { pool = pool; base = base; cpus = items_of vecs }
 
--- if a CPU's vector gets one more row, the CPU's lane is one row longer
+-- if `row` is appended to the vector of CPU `c`, the table of CPU `c` is one row longer
 pub cpu_longer : (pool : List InferredPool) (base : List BaseInferred) (vecs : List (Vec InferredCpu Global)) (c : ℕ)
     (v : Vec InferredCpu Global) (row : InferredCpu) → c < length vecs → v.items ≡ list_at (items_of vecs) c ++ row ∷ [] →
     IsLonger (CpuLane c) (with_lanes pool base vecs) (with_lanes pool base (slice_set vecs c v))
@@ -102,7 +104,7 @@ cpu_longer pool base vecs c v row low more = record { cpus = set_long vecs c v; 
     rows BaseLane = refl
     rows (CpuLane d) = at_cpu d (c == d) refl
 
--- if the row of `spot` is put into the vector of a CPU, the tables change by the row of `spot`
+-- if the row of `spot` is put into its CPU's vector, the tables change by this row and no other
 pub cpu_row_put : (pool : List InferredPool) (base : List BaseInferred) (vecs : List (Vec InferredCpu Global)) (c : ℕ)
     (v : Vec InferredCpu Global) (spot : Spot) (mark : Mark) → c < length vecs → spot.step ≡ Marked mark →
     mark.lane ≡ CpuLane c →
@@ -114,8 +116,8 @@ cpu_row_put pool base vecs c v spot mark low is lane_is put =
     (sym (lane_set vecs c v low)) put)
     (λ d other. lane_kept vecs c d v other) (set_long vecs c v) refl refl
 
--- if the mark at index `i` is passed and its lane gets a row, the number of a lane's rows plus its marks that are left
--- does not change
+-- if the mark at index `i` is passed and its lane gets a row, each lane's rows and its marks that are left have the
+-- same sum as before
 pub rows_and_left : (lane : LaneId) (marks : List MarkOf) (i : ℕ) (d : MarkOf) (old new : Tables) (n : ℕ) →
     i < length marks → IsLonger (get_or marks i d).mark.lane old new →
     rows_in old lane + length (lane_marks lane (map seen_mark (drop i marks))) ≡ n →

@@ -29,7 +29,7 @@ module _ (lists : Lists) where
   abbrev effects : SeenLine → List Effect
   effects line = effects_of lists line.steps
 
-  -- an act has its form, or the act is not done and has no steps
+  -- the act's steps match a form of the act, or the act is not done and has no steps
   abbrev pub ActDone : Setting → BoundAct → Type 0
   ActDone set bound = ActForm set bound.act (effects bound.line) ⊎ (effects bound.line ≡ [])
 
@@ -43,7 +43,7 @@ module _ (lists : Lists) where
   CallsForm set [] = ⊤
   CallsForm set (call ∷ calls) = CallForm set call × CallsForm (setting_after_call set call) calls
 
-  -- the calls of each caller have their forms
+  -- for each caller, the steps of each call match a form of the call
   abbrev pub AllCallsForm : List (List Call) → Type 0
   AllCallsForm callers = (c : ℕ) → c < length callers → CallsForm (start_setting callers c) (list_at callers c)
 
@@ -76,7 +76,8 @@ module _ (lists : Lists) (lawful : LawfulLanes lists) where
   no_acts_done set (bound ∷ acts) [] following none = absurd following
   no_acts_done set (bound ∷ acts) (m ∷ ms) following none = absurd (cc none)
 
-  -- the acts of a vread have their forms, and the vread does not change the caller's setting
+  -- the steps of each act inside a vread match a form of the act, or there are none; the vread keeps the caller's
+  -- setting
   record VreadLeft (acts : List BoundAct) (m : CallMeaning) : Type 0 where
     done : AllByRecursion (ActDone lists m.before.setting) acts
     setting : m.after.setting ≡ m.before.setting
@@ -109,7 +110,7 @@ module _ (lists : Lists) (lawful : LawfulLanes lists) where
       go true (g, rest, is, k) = after_look rest (serves_locally (published_by g) (current_state m.before) n) k
       go false k = called n flags acts m following k
 
-  -- a call has its form, and leaves the setting that the definition gives
+  -- the steps of `call` match a form of the call, and the setting after it is the one that the definition gives
   record CallDone (set : Setting) (call : Call) (m : CallMeaning) : Type 0 where
     form : CallForm lists set call
     leaves : m.after.setting ≡ setting_after_call set call
@@ -164,7 +165,8 @@ module _ (lists : Lists) (lawful : LawfulLanes lists) where
       CallsForm lists set calls
   caller_form set calls ms means = calls_form (caller_start set) set calls ms refl means.effects means.follows
 
--- if P holds of each caller with its elements of `xs` and `ys`, P holds of caller n with its elements
+-- if P holds of each caller with its elements of `xs` and `ys`, P holds of caller `n` with its element of `xs` and some
+-- `y`
 each_caller_at : {A B : Type 0} (P : ℕ → List A → B → Type 0) (c : ℕ) (xs : List (List A)) (ys : List B) →
     EachCaller P c xs ys → (i n : ℕ) → i < length xs → c + i ≡ n → (y : B) × P n (list_at xs i) y
 each_caller_at P c [] ys each i n lt at = absurd (omega arith)

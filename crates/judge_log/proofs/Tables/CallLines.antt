@@ -1,4 +1,4 @@
--- A fact holds of each line of a transcript exactly if it holds of each line of its calls.
+-- A fact holds of each line of a transcript exactly if it holds of each line of the calls that group these lines.
 use Rattle.std.proofs.Common.{ℕ, zero, suc, ◌<◌, List, [], ◌∷◌, length, arith}
 use Rattle.std.specs.List.{AllByRecursion}
 use Rattle.key_names.specs.declared.events.Event.{Event}

@@ -31,7 +31,7 @@ use Rattle.judge_log.proofs.Tables.RowsAfter.{CpuRow, PoolRow, RowAfter}
 use Rattle.key_names.proofs.Samples.SampleLaw.{quiet_dump}
 use Rattle.judge_log.proofs.Tables.IrqShapes.{IrqOnly, IrqDumps, Crossed, crosses, sample_quiet, sample_due}
 
--- ---- entries
+-- ---- entries that make no dump due
 
 quiet_due : (f : FastPool) (e : CpuEntry) → EntryIsQuiet f e → DueConforms f false e
 quiet_due f (IrqSample v1 v2 now) quiet = quiet
@@ -49,7 +49,7 @@ dump_due : (f : FastPool) (b : Bool) (e : CpuEntry) → IsDump e → DueConforms
 dump_due f b (Dump now) dump = tt
 dump_due f b _ dump = absurd dump
 
--- ---- kinds of lines other than the line of an interrupt
+-- ---- lines that are not the line of an interrupt
 
 abbrev pub IsNoSample : Telling → Type 0
 IsNoSample (samples v1 v2) = ⊥
@@ -82,7 +82,7 @@ module _ (inferred : Tables) (lists : Lists) where
   abbrev fast : ℕ → ℕ → FastPool
   fast = (facts_of lists).fast
 
-  -- ---- the goal about the tables, place by place
+  -- ---- the condition on dumps, at one place of a CPU
 
   abbrev pub DueHere : ℕ → ℕ → Type 0
   DueHere c k = (t : InferredCpu) (e : CpuEntry) → slice_get (list_at inferred.cpus c) k ≡ Some t →
@@ -150,7 +150,7 @@ module _ (inferred : Tables) (lists : Lists) where
     abbrev Rows : List Effect → Type 0
     Rows xs = RowsFrom nowhere nowhere xs
 
-    -- from samples to tables
+    -- if the samples of an interrupt's line are lawful, the conditions on dumps hold of the line's rows
 
     only_tables : IrqOnly set v1 v2 ds → SamplesConform fast ds → Rows ds → AllConform ds
     only_tables f (inl quiet) rows =
@@ -203,10 +203,10 @@ module _ (inferred : Tables) (lists : Lists) where
     irq_tables (inl f) conform rows = only_tables f conform rows
     irq_tables (inr f) conform rows = dumps_tables f conform rows
 
-    -- from tables to samples
+    -- if the conditions on dumps hold of the tables, the samples of the line are lawful
 
     module _ (fills : Fills inferred lists) (lawful : Lawful inferred lists) where
-      -- the row of a sample records whether the sample makes a dump due
+      -- if `row` is the row of an interrupt's sample, it records whether the sample makes a dump due
       due_is : (row : InferredCpu) (v : CpuVisit) → CpuRow inferred lists row v → v.entry ≡ IrqSample v1 v2 set.now →
           makes_due (fast v.cpu v.place) set.now ≡ row.dumps
       due_is row v r is = subst (DueConforms (fast v.cpu v.place) row.dumps) is

@@ -32,7 +32,7 @@ use Rattle.judge_log.specs.Spots.{HasRows, rows_in}
 use Rattle.judge_log.proofs.Tables.Matches.{PlaceMatches, StepMatches, LineThere, LineMatches, to_calls, from_calls}
 use Rattle.judge_log.proofs.Tables.MarkedSteps.{StepHas, LineHas, MarkHas, all_lines, all_of_lines, to_callers, to_all_lines}
 
--- the number of entries of a lane
+-- the number of entries that a lane has in the lists
 abbrev pub entries_in : Lists → LaneId → ℕ
 entries_in lists PoolLane = length lists.pool
 entries_in lists BaseLane = length lists.base
@@ -51,7 +51,7 @@ book_lanes book (CpuLane c) =
     ap length (list_at_map (λ (v : Visit CpuEntry). v.entry) book.cpus c)
     ∙ length-map (list_at book.cpus c) (λ (v : Visit CpuEntry). v.entry)
 
--- ---- an entry at each place of a lane
+-- ---- if a place is below the number of a lane's entries, the lane has an entry at this place
 
 is_there : {E : Type 0} (effect : E → Effect) → ((e : E) → IsThere (effect e)) → (xs : List E) (place : ℕ) →
     place < length xs → IsThere (effect_or effect (slice_get xs place))
@@ -104,7 +104,7 @@ module _ (script : Script) (t : List (List SeenLine)) (inferred : Tables) (book 
   there_of : (c : ℕ) → c < length callers → AllByRecursion (OfCall (LineThere inferred lists)) (list_at callers c)
   there_of c low = at_list (λ (calls : List Call). AllByRecursion (OfCall (LineThere inferred lists)) calls) callers c low there
 
-  -- ---- from lines to places
+  -- ---- if each line's visits have the inferred entries, the lists match the tables
 
   module _ (fill : AllCallsFill lists callers) where
     calls_match : AllByRecursion (λ calls. AllByRecursion (OfCall (LineMatches inferred lists)) calls) callers
@@ -134,7 +134,7 @@ module _ (script : Script) (t : List (List SeenLine)) (inferred : Tables) (book 
       cpu = λ c k u e at conforms. at_place (CpuLane c) k (slice_get_within (list_at inferred.cpus c) k u at) u e at conforms;
     }
 
-  -- ---- from places to lines
+  -- ---- if the lists match the tables, each line's visits have the inferred entries
 
   module _ (fill : Fills inferred lists) where
     place : (lane : LaneId) (i : ℕ) → PlaceMatches inferred lists lane i

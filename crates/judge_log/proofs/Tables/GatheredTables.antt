@@ -1,5 +1,4 @@
--- The result of gather: tables with a row for each mark. If a line visits a CPU that does not exist, there is no
--- result.
+-- What gather returns: tables with a row for each mark. It returns none if a line visits a CPU that does not exist.
 use Rattle.std.proofs.Common.{◌≡◌, ℕ, zero, suc, ◌<◌, ◌≤◌, List, [], ◌∷◌, length, map, Some, None, sym, subst, ap, ◌∙◌, arith}
 use Rattle.std.specs.Prelude.{Any, slice_index_or}
 use Rattle.std.specs.List.{AllByRecursion}
@@ -50,7 +49,7 @@ gathered script t parts settings bare inferred well found long changes conforms 
           all_sampled script t book ms conforms.lines conforms.marks_conform of means lanes samples;
     }
 
--- ---- a CPU that does not exist
+-- ---- a transcript with a visit of a CPU that does not exist
 
 beyond : {E : Type 0} (visits : List (Visit E)) (place : ℕ) (there : ℕ × Who) → visits ≡ [] →
     stamped visits place ≡ Some there → ⊥

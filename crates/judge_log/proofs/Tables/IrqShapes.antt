@@ -30,7 +30,7 @@ use Rattle.judge_lines.specs.declared.inferred.Sign.TheVariants.{Saw as saw, InP
 use Rattle.judge_log.proofs.Tables.CallForms.{ActDone, CallForm, CallsForm}
 use Rattle.key_names.proofs.Transcripts.QuietForms.{quiet, end_quiet, sys}
 
--- ---- reads make no dump due
+-- ---- a read makes no dump due
 
 module _ (c : LaneFacts) (set : Setting) (sooner taken : Taken) (first : Sign) where
   entry_quiet : (v : CpuVisit) (e : CpuEntry) → v.entry ≡ e → EntryIsQuiet (c.fast v.cpu v.place) e →
@@ -56,7 +56,7 @@ module _ (c : LaneFacts) (set : Setting) (sooner taken : Taken) (first : Sign) w
   )
   part_quiet a b (nothing_there ∷ ds) fill = (tt, part_quiet b nowhere ds fill.1)
 
--- ---- the steps after a credit
+-- ---- the steps of a line after a credit of the pool
 
 pub record RootAndBase (rest : List Effect) : Type 0 where
   pub pool : PoolVisit
@@ -93,7 +93,7 @@ cross_crossed set ready ds f = rooted_crossed set _ ds f
 cross_crossed set early ds (inl f) = rooted_crossed set _ ds f
 cross_crossed set early ds (inr f) = inr (inl (record { base = f.base; are = f.effects_are }))
 
--- ---- interrupts
+-- ---- the line of an interrupt
 
 -- the steps of an interrupt with a dump
 pub record IrqDumps (set : Setting) (v1 v2 : ℕ) (ds : List Effect) : Type 0 where
@@ -186,7 +186,7 @@ module _ (lists : Lists) where
   module _ (Here : Setting → Event → SeenLine → Type 0)
       (irq : (set : Setting) (v1 v2 : ℕ) (line : SeenLine) → Here set (Irq v1 v2) line →
       IrqForm set v1 v2 (effects line) → Conforms line) where
-    -- if a call is a single event, the condition on the call is `Here`; there is no condition on other calls
+    -- if a call is a single event, `Here` holds of its setting, event and line; nothing is required of other calls
     abbrev pub CallHere : Setting → Call → Type 0
     CallHere set (alone event line) = Here set event line
     CallHere set (vread_call n flags line acts) = ⊤

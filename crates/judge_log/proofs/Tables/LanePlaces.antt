@@ -12,12 +12,12 @@ use Rattle.key_names.proofs.Transcripts.LaneCounts.{lane_itself}
 use Rattle.key_names.proofs.Transcripts.TakenMarks.{from_range}
 use Rattle.key_names.proofs.Transcripts.TranscriptBooks.{lt_or_le}
 
--- ---- places below the number of marks
+-- ---- counting the marks at a place
 
 abbrev hit : Bool → ℕ
 hit b = cond b 1 0
 
--- how many marks have this place
+-- how many marks in the list have the place `q`
 abbrev at : ℕ → List Mark → ℕ
 at q [] = 0
 at q (m ∷ ms) = hit (m.place == q) + at q ms
@@ -69,7 +69,7 @@ none_at q ms conform le =
         sym (at_is_count i ms) ∙ sym (ap (λ j. count_by (λ (mark : Mark). mark.place == j) ms) p)
         ∙ from_range (λ place. count_by (λ mark. mark.place == place) ms ≡ 1) 0 (length ms) conform.once i low
 
--- if no mark has a place of n or more, all places are below n
+-- if no mark in `ms` has a place of n or more, all places in `ms` are below n
 low_places : (n : ℕ) (ms : List Mark) → ((q : ℕ) → n ≤ q → at q ms ≡ 0) → AllByRecursion (λ m. m.place < n) ms
 low_places n [] none = tt
 low_places n (m ∷ ms) none = (
@@ -86,7 +86,7 @@ low_places n (m ∷ ms) none = (
 pub places_low : (ms : List Mark) → PlacesConform ms → AllByRecursion (λ m. m.place < length ms) ms
 places_low ms conform = low_places (length ms) ms (λ q le. none_at q ms conform le)
 
--- ---- from lanes to all marks
+-- ---- if a fact holds of each lane's marks, it holds of all marks
 
 module _ (P : LaneId → Mark → Type 0) where
   first_of : (b : Bool) (lane : LaneId) (m : Mark) (ms : List Mark) → b ≡ true →
@@ -99,7 +99,7 @@ module _ (P : LaneId → Mark → Type 0) where
   rest_of true lane m ms all = all.1
   rest_of false lane m ms all = all
 
-  -- if P holds of the marks of each lane, P holds of all marks
+  -- if P holds of each lane with the marks of this lane, P holds of all marks
   pub in_lanes : (marks : List MarkBy) → ((lane : LaneId) → AllByRecursion (P lane) (lane_marks lane marks)) →
       AllByRecursion (λ by. P by.mark.lane by.mark) marks
   in_lanes [] all = tt

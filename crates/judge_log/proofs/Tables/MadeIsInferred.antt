@@ -1,4 +1,4 @@
--- If callers have a lawful meaning, the visits of each line have the entries inferred from the line's steps.
+-- If callers have a lawful meaning, the visits of each line have the entries that are inferred from the line's steps.
 use Rattle.std.proofs.Common.{◌≡◌, inl, inr, List, [], ◌∷◌, sym, subst}
 use Rattle.std.specs.List.{AllByRecursion}
 use Rattle.key_names.specs.Lanes.Book.{Book, Lists, LawfulLanes, lists_of, list_at}
@@ -32,7 +32,7 @@ module _ (lists : Lists) (lawful : LawfulLanes lists) where
   fits : (line : SeenLine) → AllFit c (effects line)
   fits line = lists_fit lists lawful.forward line.steps
 
-  -- a line without steps has no visits, so all its visits have the inferred entries
+  -- a line without effects has no visits, so each of its visits has the inferred entry
   none_fills : (set : Setting) (t : Telling) (line : SeenLine) → effects line ≡ [] → LineFills c set t (effects line)
   none_fills set t line none = let P : List Effect → Type 0 = λ ds. LineFills c set t ds in subst P (sym none) tt
 

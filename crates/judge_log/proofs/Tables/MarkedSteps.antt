@@ -64,7 +64,7 @@ module _ (Q : LaneId → ℕ → Type 0) where
   all_of_lines (lines ∷ t) all =
       each_append MarkHas (flat_map line_marks lines) (all_marks t) (of_lines lines all.0) (all_of_lines t all.1)
 
--- a fact holds of each line exactly if it holds of each line of the calls
+-- `P` holds of each line of a transcript exactly if it holds of each line of the calls
 module _ (P : SeenLine → Type 0) where
   pub to_callers : (c : ℕ) (ess : List (List Event)) (t : List (List SeenLine)) →
       EachCaller (λ c events lines. LinesFit c 0 events lines) c ess t →

@@ -38,7 +38,7 @@ use Rattle.judge_log.specs.Rows.{lane_sign, step_sign, first_shown, IsPoolRow, R
 use Rattle.judge_log.proofs.Tables.MarkedSteps.{StepHas}
 use Rattle.judge_log.specs.Rows.{RowConforms, LineRows, ActRows, CallRows, CallsRows, part_telling}
 
--- a visit has the inferred entry exactly if it has the entry of its row
+-- a visit has the inferred entry exactly if it has the entry that its row gives
 to_row : (c : LaneFacts) (set : Setting) (t : Telling) (p : PoolInferred) (row : InferredPool) (v : PoolVisit) →
     IsPoolRow set t p row → FillsPool c set t p v → v.entry ≡ pool_entry c row
 to_row c set t own (pool_is note) v is fills = fills ∙ sym is
@@ -72,7 +72,7 @@ module _ (inferred : Tables) (lists : Lists) where
   abbrev pub StepMatches : Step → Type 0
   StepMatches step = StepHas PlaceMatches step
 
-  -- the visit has the inferred entry
+  -- if the effect `d` is a visit, the visit has the inferred entry
   abbrev Filled : Setting → Telling → Sign → Neighbours → Effect → Type 0
   Filled set t first neighbours d = Fills (facts_of lists) set t first neighbours d
 
@@ -120,7 +120,7 @@ module _ (inferred : Tables) (lists : Lists) where
       go None there = tt
       go (Some e) there = matches (cpu_row set t first neighbours) e row there
 
-  -- ---- the visible part of steps, and of their visits
+  -- ---- the visible part of a step is that of its visit
 
   lane_shown : (lane : LaneId) (place : ℕ) → IsThere (effect_at lists lane place) →
       sign_of (effect_at lists lane place) ≡ lane_sign lane place
@@ -151,7 +151,7 @@ module _ (inferred : Tables) (lists : Lists) where
   first_is [] there = refl
   first_is (step ∷ steps) there = shown step there.0
 
-  -- ---- a line
+  -- ---- one line
 
   module _ (set : Setting) (tell : Neighbours → Telling) (first : Sign) where
     abbrev Tells : Neighbours → Effect → Type 0
@@ -199,7 +199,7 @@ module _ (inferred : Tables) (lists : Lists) where
   abbrev pub LineMatches : SeenLine → Type 0
   LineMatches line = AllByRecursion StepMatches line.steps
 
-  -- each visit of a line has the inferred entry; the line's kind may depend on the step
+  -- each visit of a line has the inferred entry; `tell` gives the line's kind from the steps around the visit
   abbrev LineTells : Setting → (Neighbours → Telling) → List Step → Type 0
   LineTells set tell steps =
       AllFill (Tells set tell (first_sign (effects_of lists steps))) nowhere nowhere (effects_of lists steps)
@@ -216,7 +216,7 @@ module _ (inferred : Tables) (lists : Lists) where
       subst (λ s. AllFill (Tells set tell s) nowhere nowhere (effects_of lists steps)) (sym (first_is steps there))
       (from_steps set tell (first_shown steps) nowhere nowhere steps rows there all)
 
-  -- ---- calls
+  -- ---- the lines of a call
 
   to_acts : (set : Setting) (acts : List BoundAct) → AllByRecursion (ActRows inferred set) acts →
       AllByRecursion (λ bound. LineThere bound.line) acts → AllByRecursion (ActFills lists set) acts →

@@ -18,7 +18,7 @@ use Rattle.judge_log.specs.Rows.{IsPoolRow, cpu_row}
 use Rattle.judge_log.specs.Spots.{Spot, rows_in, SameRow, is_visit, SpotRow, Changes}
 use Rattle.judge_log.proofs.Tables.TableChanges.{one_row, unchanged}
 
--- `new` has `row` at `place` if `old` has that place, and equals `old` at all other places
+-- if `old` has `place`, `new` has `row` there; `new` equals `old` at all other places
 pub record PutAt {A : Type 0} (old new : List A) (place : ℕ) (row : A) : Type 0 where
   pub at : place < length old → slice_get new place ≡ Some row
   pub others : (k : ℕ) → k ≢ place → slice_get new k ≡ slice_get old k
@@ -81,7 +81,7 @@ module _ (spot : Spot) (mark : Mark) (old new : Tables) (is : spot.step ≡ Mark
       others BaseLane place ne = put.others place (ne lane_is)
       others (CpuLane c) place ne = ap (λ (xs : List (List InferredCpu)). slice_get (list_at xs c) place) cpus
 
-  -- if the row of `spot` is put into a CPU's table, and nothing else changes, the tables change by the row of `spot`
+  -- if the row of `spot` is put into the table of a CPU, and no other row changes, the tables change by this row
   pub cpu_put : (cpu : ℕ) → mark.lane ≡ CpuLane cpu →
       PutAt (list_at old.cpus cpu) (list_at new.cpus cpu) mark.place (cpu_row spot.set spot.tells spot.first spot.neighbours) →
       ((c : ℕ) → c ≢ cpu → list_at new.cpus c ≡ list_at old.cpus c) → length new.cpus ≡ length old.cpus →
@@ -115,7 +115,7 @@ module _ (spot : Spot) (mark : Mark) (old new : Tables) (is : spot.step ≡ Mark
       others BaseLane place ne = ap (λ xs. slice_get xs place) base
       others (CpuLane c) place ne = row c place (c == cpu) refl ne
 
--- a mark on a CPU that does not exist changes nothing
+-- if a spot is a mark on a CPU that does not exist, putting its row leaves the tables `a` unchanged
 pub absent_put : (spot : Spot) (mark : Mark) (a : Tables) (cpu : ℕ) → spot.step ≡ Marked mark → mark.lane ≡ CpuLane cpu →
     length a.cpus ≤ cpu → Changes (spot ∷ []) a a
 absent_put spot mark a cpu is lane_is absent = row_put spot mark a a is refl (λ lane. refl)

@@ -1,5 +1,5 @@
--- Stamps rise along the steps of a single event. So if the event's line visits one CPU twice, the second place is
--- higher.
+-- Stamps rise along the steps of a single event. So if the event's line visits one CPU twice, its second visit has the
+-- higher place.
 use Rattle.std.proofs.Common.{◌≡◌, ◌≢◌, ℕ, zero, suc, ◌<◌, inl, inr, Bool, true, false, List, [], ◌∷◌, ◌++◌, length, refl, sym, ap, ◌∙◌, subst, arith, Some, Option}
 use Rattle.std.specs.Prelude.{⊤, if◌then◌else◌, unwrap_or}
 use Rattle.std.specs.List.{AllByRecursion}
@@ -26,7 +26,7 @@ use Rattle.key_names.proofs.Samples.EffectPlaces.{CpuStep, cpu_step}
 use Rattle.key_names.proofs.Samples.Lines.{each_in, Among, MarkOf, mark_of}
 use Rattle.key_names.proofs.Samples.LineVisits.{stamp_at}
 
--- ---- parts of a rising list
+-- ---- parts of a list of steps whose stamps rise
 
 stamps_append : (xs ys : List Step) → stamps_of (xs ++ ys) ≡ stamps_of xs ++ stamps_of ys
 stamps_append [] ys = refl
@@ -53,9 +53,9 @@ front_rises xs ys h = rises_front (stamps_of xs) (stamps_of ys) (subst Rises (st
 back_rises : (xs ys : List Step) → Rising (xs ++ ys) → Rising ys
 back_rises xs ys h = rises_back (stamps_of xs) (stamps_of ys) (subst Rises (stamps_append xs ys) h)
 
--- ---- calls
+-- ---- stamps rise along the line of a single event
 
--- if the call is a single event, stamps rise along its line
+-- if the call is a single event, the stamps rise along the event's line
 abbrev pub LineRises : Call → Type 0
 LineRises (alone event line) = Rises (stamps_of line.steps)
 LineRises (vread_call n flags line acts) = ⊤
@@ -90,7 +90,7 @@ lines_rise script t marks c lt =
     (back_rises (start_of callers c) (calls_steps (list_at callers c))
     (subst Rising (order_is_start_and_own callers c lt) order))
 
--- ---- two visits of one CPU in a line
+-- ---- two visits of one CPU in one line
 
 in_lane : (lane : LaneId) (by : MarkBy) (marks : List MarkBy) → is_same_lane by.mark.lane lane ≡ true →
     IsIn by marks → IsIn by.mark (lane_marks lane marks)
@@ -119,7 +119,7 @@ module _ (t : List (List SeenLine)) (book : Book) (visits : VisitsAre book (all_
   abbrev lists : Lists
   lists = lists_of book
 
-  -- some mark of CPU `c` has this place and this stamp
+  -- some mark of CPU `c` has the place `place` and the stamp `stamp`
   record MarkAt (c place stamp : ℕ) : Type 0 where
     mark : Mark
     who : Who
@@ -144,7 +144,7 @@ module _ (t : List (List SeenLine)) (book : Book) (visits : VisitsAre book (all_
         stamp_is = ap (λ (x : Mark). x.stamp) m.mark_is;
       }
 
-  -- of two marks of a CPU, the one with the lower stamp has the lower place
+  -- if two marks of CPU `c` have places `p` and `q` and stamps `a` < `b`, then `p` < `q`
   marks_in_order : (c p q a b : ℕ) → MarkAt c p a → MarkAt c q b → a < b → p < q
   marks_in_order c p q a b m n lt = in_order p q ne above
     where
@@ -188,7 +188,7 @@ module _ (t : List (List SeenLine)) (book : Book) (visits : VisitsAre book (all_
       let R : ℕ → Type 0 = λ c. MarkAt c d.place l.mark.stamp in
       marks_in_order s.cpu s.place d.place k.mark.stamp l.mark.stamp m (subst R on n) lt
 
-  -- if a line has a dump after a sample on the same CPU, the dump has the higher place
+  -- if a line has the sample `s` and then the dump `d` on the same CPU, `d` has the higher place
   pub after : (line : SeenLine) → Among line t → Rises (stamps_of line.steps) → (s d : CpuVisit) (ds : List Effect) →
       effects_of lists line.steps ≡ at_cpu s ∷ at_cpu d ∷ ds → d.cpu ≡ s.cpu → s.place < d.place
   after line among rises s d ds is on = steps_in_order line line.steps refl among rises s d ds is on

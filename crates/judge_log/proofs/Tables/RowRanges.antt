@@ -1,4 +1,5 @@
--- Inferred entries are in range: their moments are those of the script, and their integers have 1, 2, 4 or 8 bytes.
+-- Inferred entries are in range: their moments come from the script and are below 2^40 ms, and their integers have 1,
+-- 2, 4 or 8 bytes.
 use Rattle.std.proofs.Common.{◌≡◌, ℕ, zero, suc, ◌<◌, ◌^◌, Bool, true, false, List, [], ◌∷◌, length, Option, Some, None, inl, inr, refl, sym, subst, arith}
 use Rattle.std.specs.Bool.{⊤}
 use Rattle.std.specs.Prelude.{slice_get, if◌then◌else◌, ◌==◌}
@@ -49,7 +50,7 @@ use Rattle.judge_log.proofs.Tables.MarkedSteps.{StepHas, LineHas}
 abbrev pub IsNear : Setting → Type 0
 IsNear set = set.now < 2 ^ 40
 
--- ---- rows
+-- ---- the rows inferred from one line
 
 abbrev EntryIsNear : PoolEntry → Type 0
 EntryIsNear (Input word kind code value now) = now < 2 ^ 40
@@ -62,7 +63,7 @@ WidthConforms (ints width) = IsWidth width
 WidthConforms (prepares e) = EntryIsWide e
 WidthConforms _ = ⊤
 
--- the entries that are inferred for this kind of line are in range
+-- the entries that are inferred for a line of the kind `t` are in range
 record TellsNear (t : Telling) : Type 0 where
   own_near : EntryIsNear (own_entry t)
   width : WidthConforms t
@@ -145,7 +146,7 @@ cpu_wide set (prepares e) first a b following wide = wide
 cpu_wide set _ first a b following wide = tt
 
 module _ (inferred : Tables) where
-  -- if there is a row at this place, it is in range
+  -- if the lane has a row at this place, the row is in range
   abbrev pub NearAt : LaneId → ℕ → Type 0
   NearAt PoolLane place = (u : InferredPool) → slice_get inferred.pool place ≡ Some u → PoolIsNear u
   NearAt BaseLane place = (u : BaseInferred) → slice_get inferred.base place ≡ Some u → BaseIsNear u
@@ -217,9 +218,9 @@ module _ (inferred : Tables) where
     call_near (ending line) rows =
         line_near (λ neighbours. ends) line.steps (λ neighbours. record { own_near = tt; width = tt }) rows
 
--- ---- settings
+-- ---- the moments in events and settings
 
--- the moment of an event is in range
+-- if the event sets the moment, the moment is below 2^40 ms
 abbrev EventIsNear : Event → Type 0
 EventIsNear (At moment) = moment < 2 ^ 40
 EventIsNear _ = ⊤
@@ -307,7 +308,7 @@ firsts_near callers (suc c) all =
     each_append IsNear sets (inherited_setting sets (parent_from c 0 callers) ∷ []) (firsts_near callers c all)
     (inherited_near sets (parent_from c 0 callers) (firsts_near callers c all) (parent_near c 0 callers all), tt)
 
--- ---- all calls
+-- ---- all calls of a caller
 
 abbrev Near : OfCalls
 Near waiting es lines calls = AllByRecursion EventIsNear es → AllByRecursion CallIsNear calls

@@ -22,7 +22,7 @@ use Rattle.judge_log.specs.Tables.{Tables}
 use Rattle.judge_log.specs.Rows.{lane_sign, step_sign, first_shown, PoolRowAt, cpu_row, RowAt, AllRows, RowConforms}
 
 module _ (inferred : Tables) (lists : Lists) where
-  -- `row` is the row at the place of this visit of a CPU, and the list has the visit's entry at this place
+  -- `row` is the table's row at the place of the CPU's visit `v`, and the list has the entry of `v` at this place
   pub record CpuRow (row : InferredCpu) (v : CpuVisit) : Type 0 where
     pub row_is : slice_get (list_at inferred.cpus v.cpu) v.place ≡ Some row
     pub entry_is : slice_get (cpu_list lists v.cpu) v.place ≡ Some v.entry
@@ -59,7 +59,7 @@ module _ (inferred : Tables) (lists : Lists) where
         go None at = tt
         go (Some e) at = record { row_is = row; entry_is = at }
 
-    -- if the lists have the visit of a step, the step and the visit have the same visible part
+    -- if the lists have an entry at the place that a step visits, the visible part of the step is that of the visit
     lane_shown : (lane : LaneId) (place : ℕ) → IsThere (effect_at lists lane place) →
         lane_sign lane place ≡ sign_of (effect_at lists lane place)
     lane_shown PoolLane place = go (slice_get lists.pool place)

@@ -1,4 +1,4 @@
--- In a book with lawful samples, a line whose call has a lawful meaning has lawful samples.
+-- If a book's samples are lawful, and a line's call has a lawful meaning in this book, the line's samples are lawful.
 use Rattle.std.proofs.Common.{◌≡◌, ℕ, ◌<◌, inl, inr, Bool, true, false, List, [], ◌∷◌, refl, sym, ap, ◌∙◌, subst, Some}
 use Rattle.std.specs.Prelude.{slice_get, take}
 use Rattle.std.specs.List.{AllByRecursion}
@@ -32,7 +32,7 @@ use Rattle.judge_log.proofs.Tables.IrqShapes.{CallsHere, calls_conform}
 use Rattle.key_names.proofs.Samples.Lines.{Among, Apart, apart, each_among, each_in}
 use Rattle.key_names.proofs.Samples.SampleLaw.{due_dump, due_at, dump_at, mix_at, due_in, dump_in_line}
 
--- a CPU's entries determine its fast pool before each place
+-- the entries of CPU `c` determine its fast pool before each place
 fast_before_is : (book : Book) (c place : ℕ) →
     fast_before (visits_of book c) place ≡ (facts_of (lists_of book)).fast c place
 fast_before_is book c place = ap (λ es. fast_after (take place es)) (entries_at book.cpus c)
@@ -59,7 +59,7 @@ module _ (t : List (List SeenLine)) (book : Book) (apart : Apart t) (visits : Vi
     abbrev who : Who
     who = record { caller = line.caller; event = line.event; step = 0 }
 
-    -- the visit of a sample is not the visit of a dump
+    -- if `s` is the visit of a sample and `d` is the visit of a dump, they are different visits
     not_dump : (s d : CpuVisit) → s.entry ≡ IrqSample v1 v2 set.now → at_cpu s ≡ at_cpu d → IsDump d.entry → ⊥
     not_dump s d is same dump =
         let p : s ≡ d = cc in
@@ -120,7 +120,8 @@ module _ (t : List (List SeenLine)) (book : Book) (apart : Apart t) (visits : Vi
             (mix_at t book fast (fast_is book) apart visits places line f.mix who f.text f.bits here
             (there (at_pool f.mix) (inr (inr (inl refl)))) refl refl f.mixes)
 
-        -- if a visit of this line made a dump due at a place before the line's dump, the visit is the line's sample
+        -- let a visit `v` of a line with a dump make a dump due at a place before this dump. Then `v` is the line's
+        -- sample
         at_sample : (v : CpuVisit) → v.place < f.dump.place → MakesDue (fast v.cpu v.place) v.entry →
             IsIn (at_cpu v) (at_cpu f.sample ∷ at_cpu f.dump ∷ at_pool f.mix ∷ f.rest) →
             MakesDue (fast f.sample.cpu f.sample.place) f.sample.entry × (f.sample.place < f.dump.place)
@@ -165,7 +166,8 @@ module _ (t : List (List SeenLine)) (book : Book) (apart : Apart t) (visits : Vi
       CallsForm lists set calls → AllByRecursion (OfCall Conforms) calls
   calls_sampled set calls among form = calls_conform lists Here irq_conforms set calls (all_here set calls among) form
 
--- if a book of these marks has lawful lanes and lawful samples, the samples of each line are lawful
+-- if the visits of a book are the marks of `t`, and the book's lanes and samples are lawful, the samples of each line
+-- are lawful
 pub all_sampled : (script : Script) (t : List (List SeenLine)) (book : Book) (ms : List (List CallMeaning)) →
     HasLines script t → MarksConform script t → IsBookOf script t book → AllMean script t book ms →
     LawfulLanes (lists_of book) → LawfulSamples book →

@@ -1,4 +1,5 @@
--- If lists match the rows of the lines, the book's samples are lawful exactly if the dumps of the tables are lawful.
+-- If lists match the rows of the lines, the book's samples are lawful exactly if the tables meet the conditions on
+-- dumps.
 use Rattle.std.proofs.Common.{◌≡◌, ℕ, ◌<◌, inl, inr, List, [], ◌∷◌, length, refl, sym, ap, ◌∙◌, subst, arith, Some, None, Option}
 use Rattle.std.specs.Prelude.{◌↔◌, slice_get}
 use Rattle.std.specs.List.{AllByRecursion}
@@ -81,7 +82,7 @@ module _ (inferred : Tables) (t : List (List SeenLine)) (book : Book) (visits : 
       subst P (first_is inferred lists set tell nowhere line.steps there)
       (rows_after inferred lists set tell _ nowhere nowhere line.steps there rows)
 
-  -- ---- from the samples of lines to the tables
+  -- ---- if the samples of each line are lawful, the tables meet the conditions on dumps
 
   abbrev LineTables : SeenLine → Type 0
   LineTables line = AllByRecursion (TablesConform inferred lists) (effects line)
@@ -192,7 +193,7 @@ module _ (inferred : Tables) (t : List (List SeenLine)) (book : Book) (visits : 
     pub tables_lawful : LawfulLanes lists → Lawful inferred lists
     tables_lawful lanes = record { lanes = lanes; dues = dues; mixes = mixes }
 
-  -- ---- from the tables to the samples of lines
+  -- ---- if the tables meet the conditions on dumps, the samples of each line are lawful
 
   module _ (fills : Fills inferred lists) (lawful : Lawful inferred lists) where
     record Ready (set : Setting) (event : Event) (line : SeenLine) : Type 0 where
@@ -229,7 +230,7 @@ module _ (inferred : Tables) (t : List (List SeenLine)) (book : Book) (visits : 
     calls_samples set calls here rows rises form =
         calls_conform lists Ready irq_conforms set calls (all_ready set calls here rows rises) form
 
--- ---- whole transcripts
+-- ---- the samples of a whole transcript
 
 module _ (script : Script) (t : List (List SeenLine)) (inferred : Tables) (lines : HasLines script t)
     (marks : MarksConform script t) (rows : AllCallsRows inferred (script_calls script t)) (book : Book)

@@ -1,5 +1,5 @@
--- Each place is visited by at most one spot of all lines. If each spot has its row, each mark has the row inferred from
--- the mark's line.
+-- At most one spot (a step with all that its row is inferred from) visits each place. If each spot has its row, each
+-- mark has the row inferred from the mark's line.
 use Rattle.std.proofs.Common.{◌≡◌, ℕ, zero, suc, ◌<◌, ◌≤◌, Bool, true, false, List, [], ◌∷◌, length, refl, subst, arith, Some}
 use Rattle.std.specs.Prelude.{slice_get, ◌==◌, ◌&&◌, if◌then◌else◌}
 use Rattle.std.specs.List.{AllByRecursion}
@@ -25,7 +25,7 @@ use Rattle.judge_log.specs.Spots.{Spot, spots_from, line_spots, acts_spots, call
 use Rattle.judge_log.proofs.Tables.MarkedSteps.{StepHas, LineHas}
 use Rattle.judge_log.proofs.Tables.TableChanges.{hit, spots_takes, takes_append, SpotConforms}
 
--- ---- as many spots visit a place as lines have marks at this place
+-- ---- the number of spots that visit a place equals the number of marks at this place
 
 module _ (lane : LaneId) (place : ℕ) where
   one_takes : (other : LaneId) (p : ℕ) → hit (is_same_lane other lane && p == place) ≡ lane_takes lane place other p
@@ -140,7 +140,7 @@ module _ (Q : LaneId → ℕ → Type 0) where
       each_append SpotHas (calls_spots calls sets) (callers_spots callers settings) (calls_have calls sets all.0)
       (callers_have callers settings all.1)
 
--- ---- from the rows of spots to the rows of lines
+-- ---- if each spot has its row, each line has its rows
 
 module _ (inferred : Tables) where
   step_rows : (set : CallSetting) (tell : Neighbours → Telling) (first : Sign) (neighbours : Neighbours) (step : Step) →

@@ -50,8 +50,8 @@ unchanged a (CpuLane c) place = refl
 pub changes_none : (a : Tables) → Changes [] a a
 changes_none a = record { cpus = refl; sizes = λ lane. refl; rows = λ lane place. unchanged a lane place }
 
--- if `o` is a spot and the place exists, `b` has the spot's row there; if `o` is none, `a` and `b` have the same row
--- there
+-- if `o` is a spot and the place exists, `b` has the spot's row at the place; if `o` is none, `a` and `b` have the same
+-- row there
 abbrev pub RowBy : Option Spot → Tables → Tables → LaneId → ℕ → Type 0
 RowBy o a b lane place = MatchOption o (SameRow a b lane place) (λ spot. place < rows_in a lane → SpotRow b spot lane place)
 
@@ -70,7 +70,7 @@ changes_both xs ys a b c p q = record {
       (q.rows lane place));
 }
 
--- ---- one row
+-- ---- putting the row of one spot
 
 row_if : (b : Bool) (spot : Spot) (old new : Tables) (lane : LaneId) (place : ℕ) →
     (b ≡ true → place < rows_in old lane → SpotRow new spot lane place) → (b ≡ false → SameRow old new lane place) →
@@ -92,7 +92,7 @@ one_row spot old new cpus sizes put same = record {
   rows = λ lane place. row_if (is_visit lane place spot.step) spot old new lane place (put lane place) (same lane place);
 }
 
--- ---- each place once
+-- ---- a place that exactly one spot visits
 
 abbrev pub hit : Bool → ℕ
 hit b = cond b 1 0
@@ -117,7 +117,7 @@ module _ (lane : LaneId) (place : ℕ) where
       go true none rest = absurd (omega arith)
       go false none rest = or_none (last_at lane place spots) ∙ rest (omega arith)
 
-  -- if the first spot visits the place and no other spot does, the first spot is also the last one at the place
+  -- if the first spot visits the place and no other spot does, the last spot that visits the place is the first spot
   last_first : (spot : Spot) (spots : List Spot) → spots_takes (spot ∷ spots) ≤ 1 →
       is_visit lane place spot.step ≡ true → last_at lane place (spot ∷ spots) ≡ Some spot
   last_first spot spots once is =
@@ -130,7 +130,7 @@ module _ (lane : LaneId) (place : ℕ) where
       last_at lane place (spot ∷ spots) ≡ Some s
   last_after s spot spots is = ap (λ o. or_else o (if is_visit lane place spot.step then Some spot else None)) is
 
--- if the spot is a visit, the table has at the visit's place the row inferred for the spot
+-- if the spot is a visit, the table `inferred` has the row inferred for this spot at the visit's place
 abbrev pub SpotConforms : Tables → Spot → Type 0
 SpotConforms inferred spot = StepHas (λ lane place. SpotRow inferred spot lane place) spot.step
 

@@ -27,7 +27,7 @@ cpus_few version cpus le = go (nat_lt version 3) le
     go true le = omega arith
     go false le = omega arith
 
--- ---- each row of a list
+-- ---- if a fact holds at each place of a list, it holds of all elements
 
 each_at : {A : Type 0} (P : A → Type 0) (xs : List A) → ((i : ℕ) (x : A) → slice_get xs i ≡ Some x → P x) →
     AllByRecursion P xs

@@ -1,4 +1,5 @@
--- One round of each loop that puts rows: the rows of one element are put, and then the rows of the elements after it.
+-- One round of each loop that puts rows into tables: it puts the rows of one element, and later rounds those of the
+-- elements after it.
 use Rattle.std.proofs.Common.{◌≡◌, ℕ, ◌+◌, ◌<◌, ◌≤◌, List, [], ◌∷◌, ◌++◌, length, drop, get_or, map, min, refl, sym, subst, ◌∙◌, arith, ◌⊎◌, inl, inr}
 use Rattle.std.proofs.Math.Nat.{min-eq_left, min-eq_right}
 use Rattle.std.specs.Global.{Vec}
@@ -42,7 +43,7 @@ line_more set tell first a b following s steps n d x y z low after_is sign_is on
     (changes_both (spot_at set tell first (between a b (first_shown more)) step ∷ [])
     (spots_from set tell first b (step_sign step) more) x y z one' rest')
 
--- at the end of the list no row is put
+-- if `n` is at least the number of steps, no row is put, and the tables `x` stay as they are
 pub line_end : (set : CallSetting) (tell : Neighbours → Telling) (first a b : Sign) (steps : List Step) (n : ℕ) (x : Tables) →
     length steps ≤ n → Changes (spots_from set tell first a b (drop n steps)) x x
 line_end set tell first a b steps n x high =
@@ -125,7 +126,8 @@ callers_end callers settings n x (inr high) =
     (sym (at_drop_all (λ (ss : List (Vec CallSetting)). callers_spots (seen_calls (drop n callers)) (sets_of ss)) settings n high
     ∙ no_callers (seen_calls (drop n callers)))) (changes_none x)
 
--- if index `i` is the smaller of two lengths, it is at the end of one of the two lists
+-- if index `i` is the smaller of the lengths `m` and `n`, then `i` is at or past the end of at least one of the two
+-- lists
 pub short_of : (i m n : ℕ) → i ≡ min m n → (m ≤ i) ⊎ (n ≤ i)
 short_of i m n is = go (lt_or_le m n)
   where

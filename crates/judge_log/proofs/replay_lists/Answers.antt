@@ -19,7 +19,7 @@ use Rattle.judge_log.proofs.Whole.{extractions_back, refills_back, base_may_come
 use Rattle.judge_log.proofs.replay_lists.Goals as goal
 use Rattle.judge_log.proofs.replay_lists.Goals.{else-extractions_answered-via-then-extractions_answered+else-refills_answered, else-extractions_answered-via-else-extractions_answered}
 
--- `dumps` has all dumps, and each interrupt makes a dump due exactly if its line has a dump
+-- `dumps` has the dumps of all CPUs, and each interrupt makes a dump due exactly if its line has a dump
 abbrev DumpsFound : Tables → Vec (Vec (Option Dump) Global) Global → Type 0
 DumpsFound inferred dumps = AllDue inferred × AllDumps (closed inferred) (map (λ lane. lane.items) dumps.items)
 

@@ -4,7 +4,7 @@ use Rattle.std.specs.Str.{bytes_eq}
 use Rattle.std.proofs.lemmas.Slice.Eq.{bytes_eq-Decides}
 use Rattle.rng_tool.proofs.command.is_only.Goals as goal
 
--- a list of length 1 consists of its first word
+-- if there are at least one and fewer than two words, the list consists of the first word
 one : {A : Type 0} (words : List (String A)) (word : String A) → 1 ≤ length words → length words < 2 →
     word ≡ slice_index_or words 0 word →
     map string_bytes words ≡ string_bytes word ∷ []
@@ -12,7 +12,7 @@ one [] word some few is = absurd (omega arith)
 one (w ∷ []) word some few is = ap (λ v. string_bytes v ∷ []) (sym is)
 one (w ∷ v ∷ words) word some few is = absurd (omega arith)
 
--- the words are only the word `form` exactly if the test returned true
+-- if `answer` states whether the only word equals `form`, it is true exactly if the words are `form` alone
 both : (form text bytes : List ℕ) (answer : Bool) (all : List (List ℕ)) → text ≡ bytes → all ≡ bytes ∷ [] →
     answer ≡ bytes_eq text form →
     (IsTrue answer → all ≡ form ∷ []) × (all ≡ form ∷ [] → IsTrue answer)

@@ -5,7 +5,7 @@ use Rattle.memchr.specs.Find.{IsFirstByte, is_byte}
 use Rattle.rng_tool.specs.LiveSteps.{IsPart}
 use Rattle.rng_tool.proofs.live.next_line.Goals as goal
 
--- the bytes through the first line feed are a line and its line feed
+-- if the first line feed is at `place`, the bytes through it are the first `place` bytes and the line feed
 line_to : (place : ℕ) (text : List ℕ) → IsFirstByte (is_byte 10) text (Some place)
     → take (place + 1) text ≡ take place text ++ 10 ∷ []
 line_to place text h =
