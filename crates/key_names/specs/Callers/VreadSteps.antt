@@ -41,7 +41,7 @@ last_place [] = None
 last_place (effect ∷ []) = place_of effect
 last_place (effect ∷ next ∷ effects) = last_place (next ∷ effects)
 
--- the error of an answer
+-- the error that an answer stands for, or None if the answer is no error
 abbrev pub errno_of : Answer → Option Errno
 errno_of Done = None
 errno_of Again = Some EAGAIN
@@ -70,7 +70,7 @@ pub record SystemCallShows (set : Setting) (n flags : ℕ) (answer : SystemAnswe
   pub answers : answer ≡ answer_after flags call
   pub goes_on : Rest rest
 
--- the line's effects show the steps of the host. A point has no step in the transcript
+-- the effects of a vread's line show the steps of the host. A point has no step in the transcript, and so no effect
 abbrev pub Shows : Setting → List HostStep → List Effect → Type 0
 Shows set [] effects = effects ≡ []
 Shows set (publishes g ∷ steps) effects = Looked (λ look rest. (g ≡ published_by look) × Shows set steps rest) effects
@@ -129,7 +129,8 @@ pub record WipesConform (acts : List BoundAct) (points : List PointReached) : Ty
 abbrev pub is_reached : List PointReached → BoundAct → Bool
 is_reached points bound = list_any (λ reached. is_same_point reached.point bound.point) (first_points points)
 
--- the answer and the data of a line, given how the line's call ended
+-- the answer for an error. The definitions after this one give the answer and the data of a line, from how its call
+-- ended
 abbrev pub answer_of_errno : Errno → Answer
 answer_of_errno EAGAIN = Again
 answer_of_errno EINVAL = Invalid
@@ -163,7 +164,7 @@ looks_of (at_base v ∷ effects) = looks_of effects
 looks_of (at_cpu v ∷ effects) = looks_of effects
 looks_of (nothing_there ∷ effects) = looks_of effects
 
--- no number is below the one before it
+-- no number of the list is below the number before it
 abbrev pub NeverFall : List ℕ → Type 0
 NeverFall [] = ⊤
 NeverFall (a ∷ []) = ⊤

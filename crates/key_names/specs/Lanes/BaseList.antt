@@ -208,12 +208,12 @@ base_step s e = record {
 abbrev pub base_after : List BaseEntry → BaseState
 base_after = fold base_step base_start
 
--- the timer is pending and due
+-- the timer is pending, and is due at moment `now`
 abbrev pub IsDue : Option ℕ → ℕ → Type 0
 IsDue None now = ⊥
 IsDue (Some due) now = due ≤ now
 
--- the entry fits the phase, the timer, the generation and the count of running callers
+-- the entry fits the base's state: its phase, timer, generation and count of running callers
 abbrev pub BaseFits : BaseState → BaseEntry → Type 0
 BaseFits s (Early (Some root)) = s.phase ≡ empty
 BaseFits s (Early None) = s.phase ≢ empty

@@ -24,7 +24,7 @@ pub record Book : Type 0 where
   pub cpus : List (List (Visit CpuEntry))
   pub callers : List (List (List VEntry))
 
--- the entries alone, without stamps and makers
+-- the lists of a book without the stamps and makers of the visits
 pub record Lists : Type 0 where
   pub pool : List PoolEntry
   pub base : List BaseEntry

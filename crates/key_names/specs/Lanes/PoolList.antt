@@ -75,7 +75,7 @@ extraction_at pool p = option_and_then base_place_of (slice_get pool p)
 abbrev pub root_of_extraction : PoolState → List ℕ → List ℕ
 root_of_extraction s hw = blake2s (Some (seed s)) (seed_block hw 1)
 
--- the root if the entry is an extraction, else no bytes
+-- the root that an entry gives if it is an extraction in the state s, and otherwise no bytes
 abbrev pub root_given : PoolState → Option PoolEntry → List ℕ
 root_given s (Some (Extract hw base_place)) = root_of_extraction s hw
 root_given s (Some (Mix text bits)) = []

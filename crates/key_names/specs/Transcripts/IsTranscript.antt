@@ -29,7 +29,7 @@ pub record LineIs (c n : ℕ) (word : Word) (line : SeenLine) : Type 0 where
   pub event : line.event ≡ n
   pub word_is : line.word ≡ word
 
--- a line for each event in order, and then the last line; n is the number of the first event
+-- caller c has a line for each event, in order, and then the line of its end; n is the number of the first event
 abbrev pub LinesFit : ℕ → ℕ → List Event → List SeenLine → Type 0
 LinesFit c n [] [] = ⊥
 LinesFit c n [] (line ∷ []) = LineIs c n EndWord line
@@ -56,7 +56,7 @@ pub record MarkBy : Type 0 where
   pub mark : Mark
   pub who : Who
 
--- the marks of a line; i is the number of the first step
+-- the marks among the steps of a line of caller c and event n; i is the number of the first step
 abbrev pub marks_from : ℕ → ℕ → ℕ → List Step → List MarkBy
 marks_from c n i [] = []
 marks_from c n i (Look g ∷ steps) = marks_from c n (suc i) steps
@@ -202,7 +202,7 @@ pub record IsTranscriptBy (script : Script) (t : List (List SeenLine)) (book : B
 abbrev pub IsTranscript : Script → List (List SeenLine) → Type 0
 IsTranscript script t = (book : Book) × (ms : List (List CallMeaning)) × IsTranscriptBy script t book ms
 
--- the clauses in their order. Clause 1, before these, is the grammar of the text
+-- the clauses of a lawful transcript, in their order. Clause 1, before these, is the grammar of the text
 pub data Clause : Type 0 where
   lines_clause marks_clause forms_clause answers_clause data_clause looks_clause : Clause
 

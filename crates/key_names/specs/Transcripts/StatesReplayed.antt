@@ -26,7 +26,7 @@ caller_end s (m ∷ ms) = caller_end m.after ms
 abbrev pub HasName : Option KeyName → Type 0
 HasName key = (name : KeyName) × (key ≡ Some name)
 
--- the key has a name. The batch's key has a name too, unless the batch is used up
+-- the state's key has a name. The key of its batch has a name too, unless the batch is used up
 abbrev pub IsNamed : NamedState → Type 0
 IsNamed t = HasName t.key × ((t.pos ≡ 96) ⊎ HasName t.batch_key)
 
