@@ -1,4 +1,4 @@
--- If a list rises, then any sorted list with the same elements is equal to it.
+-- If each number of a list is below the next, then any sorted list with the same elements is equal to it.
 use Rattle.std.proofs.Common.{◌≡◌, ◌≢◌, ℕ, suc, ◌<◌, ◌≤◌, Bool, cond, List, [], ◌∷◌, ◌⊎◌, inl, inr, refl, sym, subst}
 use Rattle.std.proofs.Common.{ap, ◌∙◌, arith}
 use Rattle.std.specs.Prelude.{⊤, count_by, ◌==◌}
@@ -23,7 +23,7 @@ module _ {X : Type 0} (number : X → ℕ) where
   Sorted [] = ⊤
   Sorted (x ∷ xs) = AllByRecursion (λ y. number x ≤ number y) xs × Sorted xs
 
-  -- how many elements have the number k
+  -- how many elements of the list have the number k
   abbrev pub count : ℕ → List X → ℕ
   count k xs = count_by (λ x. number x == k) xs
 

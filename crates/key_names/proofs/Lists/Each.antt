@@ -21,13 +21,13 @@ pub each_append : {X : Type 0} (P : X → Type 0) (xs ys : List X) → AllByRecu
 each_append P [] ys all more = more
 each_append P (x ∷ xs) ys all more = (all.0, each_append P xs ys all.1 more)
 
--- if `P` holds for each element, and `P` implies `Q`, then `Q` holds for each element
+-- if `P` holds for each element of `xs`, and `P` implies `Q`, then `Q` holds for each element of `xs`
 pub each_weaker : {X : Type 0} (P Q : X → Type 0) (xs : List X) → ((x : X) → P x → Q x) → AllByRecursion P xs →
     AllByRecursion Q xs
 each_weaker P Q [] weaker all = tt
 each_weaker P Q (x ∷ xs) weaker all = (weaker x all.0, each_weaker P Q xs weaker all.1)
 
--- if a fact holds for each element of two joined lists, it holds for each element of either list
+-- if `P` holds for each element of `xs ++ ys`, it holds for each element of `xs` and for each of `ys`
 pub each_parts : {X : Type 0} (P : X → Type 0) (xs ys : List X) → AllByRecursion P (xs ++ ys) →
     AllByRecursion P xs × AllByRecursion P ys
 each_parts P [] ys all = (tt, all)

@@ -35,7 +35,7 @@ IsNumber-decimal n small = record {
 pub value_of_decimal : (n : ℕ) → n < 2 ^ 64 → digits_value 10 (decimal n) ≡ n
 value_of_decimal n small = digits_value-decimal own n small
 
--- if the choice gives a value, the test passed, and the value is `x`
+-- if the choice between `Some x` and `None` by `b` gives the value `y`, then `b` is true, and `y` is `x`
 met : {A : Type 0} (b : Bool) (x y : A) → cond b (Some x) None ≡ Some y → (b ≡ true) × (x ≡ y)
 met true x y e = (refl, cc)
 met false x y e = absurd cc

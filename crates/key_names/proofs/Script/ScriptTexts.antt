@@ -113,7 +113,7 @@ start_fine version cpus versions few = record {
   reads = omega arith;
 }
 
--- ---- all lines
+-- ---- reading all lines of a text
 
 first_is : (lines : List (List ℕ)) (line : List ℕ) → line_of lines ≡ Ok line → lines ≡ line ∷ following lines
 first_is [] line e = absurd cc
@@ -229,7 +229,7 @@ printable_script s whole =
       ),
     )
 
--- ---- the whole text
+-- ---- reading a whole text
 
 whole_of : (s : Script) → WellFormed s → Whole s.version s.cpus s.callers
 whole_of s fits = record {

@@ -10,7 +10,7 @@ use Rattle.key_names.specs.Callers.VreadSteps.{answer_after, Shows, NeverFall, l
 use Rattle.key_names.proofs.Transcripts.KeyVisits.{AllThere, there_append, sys_answered}
 use Rattle.key_names.proofs.Vgetrandom.StatesReplay.{KeyIs, Good}
 
--- each look of a line found at least this generation
+-- each of the looks found at least the generation `least`
 abbrev pub AllKnown : ℕ → List ℕ → Type 0
 AllKnown least [] = Unit {0}
 AllKnown least (g ∷ looks) = (least ≤ g) × AllKnown least looks

@@ -179,7 +179,7 @@ module _ (lists : Lists) (caller k : ℕ) (below : k < 16) where
       subst Q (sym (fold-append (replay.step lists caller k) x es (entries_of_state k (take j ms))))
       (calls_hold j (after x es) m.after calls ms leaves.length_is leaves.holds effects.1 mean.2)
 
-  -- the names and bytes with which the replay begins
+  -- the names and bytes of a state before its first entry, with which a replay begins
   abbrev pub start : Both
   start = record { named = state_start; bytes = state_bytes_start }
 

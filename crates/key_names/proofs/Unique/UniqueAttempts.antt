@@ -19,8 +19,8 @@ use Rattle.key_names.proofs.Transcripts.KeyVisits.{answers_done}
 use Rattle.key_names.proofs.Unique.TwoBooks.{SameCpu, SameSteps, AllInferred, same_at, inferred_at, same_looks}
 use Rattle.key_names.proofs.Unique.UniqueForms.{inferred_system}
 
--- if two choices have equal tests, and C follows both from their first sides and from their second sides, then C
--- follows from the choices
+-- let `b` and `b'` be equal. If C follows from A and A', and also from B and B', then C follows from the two choices by
+-- `b` and `b'`
 pub match_both : (A B A' B' C : Type 0) (b b' : Bool) → b ≡ b' → ((b ≡ true) → A → A' → C) → ((b ≡ false) → B → B' →
     C) →
     MatchBool b A B → MatchBool b' A' B' → C
@@ -29,7 +29,7 @@ match_both A B A' B' C false false p f g x y = g refl x y
 match_both A B A' B' C true false p f g x y = cc
 match_both A B A' B' C false true p f g x y = cc
 
--- each look found the core ready
+-- each look among the effects found the core ready
 abbrev pub AllReady : List Effect → Type 0
 AllReady ds = AllByRecursion (λ g. 1 ≤ g) (looks_of ds)
 
@@ -85,7 +85,8 @@ key_read set call more form ready =
 abbrev visit_of : CpuVisit → Option CpuPlace
 visit_of cpu = Some (record { cpu = cpu.cpu; place = cpu.place })
 
--- the system call was not interrupted, and its last effect is the visit of the CPU that serves the key
+-- the system call with the effects `front` was not interrupted, and the last of these effects is `cpu`, the visit that
+-- serves the key
 record Ends (front : List Effect) (cpu : CpuVisit) : Type 0 where
   calm : was_interrupted front ≡ false
   serves : served_bytes front ≡ cpu.serves

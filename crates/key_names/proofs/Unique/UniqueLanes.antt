@@ -51,7 +51,7 @@ same_rows (xs ∷ xss) [] long each = absurd (omega arith)
 same_rows (xs ∷ xss) (ys ∷ yss) long each =
     ap (λ z. z ∷ xss) (each 0) ∙ ap (λ zs. ys ∷ zs) (same_rows xss yss (omega arith) (λ i. each (suc i)))
 
--- a CPU's batches depend only on its own list
+-- the fills of a CPU's batches depend only on that CPU's list, and not on the base's
 fills_alone : (base base' : List BaseEntry) (c : ℕ) (es : List CpuEntry) (s s' : CpuState) → s.place ≡ s'.place →
     s.key ≡ s'.key → s.fills ≡ s'.fills → (fold (cpu_step base c) s es).fills ≡ (fold (cpu_step base' c) s' es).fills
 fills_alone base base' c [] s s' place key fills = fills

@@ -13,7 +13,7 @@ use Rattle.key_names.specs.Lanes.BaseList.{BaseState, BaseMayCome, RootConforms,
 use Rattle.key_names.proofs.Uses.UseLists.{Disjoint-two, named_uses_cases, named_uses_disjoint, read_disjoint, read_within, choice_cases}
 use Rattle.key_names.proofs.Uses.Walks.{StepFacts, Walk, walk, lawful_and_inferred}
 
--- the name was made before `place`, or it is a root with a number below `roots`
+-- the name was made by an entry of the base before `place`, or it is a root with a number below `roots`
 abbrev pub IsOld : ℕ → ℕ → KeyName → Type 0
 IsOld place roots (Root r) = r < roots
 IsOld place roots (Base i) = i < place
@@ -59,7 +59,7 @@ old_not_later refill place roots (Cpu c k) old later = old
 old_not_later refill place roots (Call lane i) old later = old
 old_not_later refill place roots (Vdso c v n) old later = old
 
--- the key in use is the key before the entry, or the root that the entry names
+-- the key in use at an entry e is `key`, the key before e, or the root that e names
 pub in_use_cases : (e : BaseEntry) (key : Option KeyName) (k : KeyName) → base_key_in_use e key ≡ Some k →
     ((root_of e ≡ None) × (key ≡ Some k)) ⊎ ((r : ℕ) × (root_of e ≡ Some r) × (Root r ≡ k))
 in_use_cases e key k = go (root_of e) refl

@@ -20,13 +20,13 @@ module _ (base : List BaseEntry) (c : ℕ) (taken : ℕ → Option Taken) where
   pub made_once : (b k l : ℕ) → MadeFor b k → MadeFor b l → k ≡ l
   made_once b k l m n = ap (λ o. option_map_or (λ p. p.1) o 0) (sym m.is ∙ n.is)
 
-  -- a name that this CPU had in use before this place
+  -- the name of a key that CPU c kept, or was handed by the base, at a place before `place`
   abbrev pub IsOld : ℕ → KeyName → Type 0
   IsOld place (Cpu d i) = (d ≡ c) × (i < place)
   IsOld place (Call BaseLane b) = (k : ℕ) × MadeFor b k × (k < place)
   IsOld place _ = ⊥
 
-  -- a name that only this CPU's entries from this place on can use
+  -- the name of a key that only CPU c's entries from `place` on can use
   abbrev pub IsLater : ℕ → KeyName → Type 0
   IsLater place (Cpu d i) = (d ≡ c) × (place ≤ i)
   IsLater place (Call BaseLane b) = (k : ℕ) × MadeFor b k × (place ≤ k)

@@ -53,7 +53,7 @@ Disjoint-append (u ∷ us) vs a b apart = (
   Disjoint-append us vs a.1 b (λ key q h r. apart key q (inr h) r),
 )
 
--- if a use ends before another begins, they have no byte in common
+-- if the use u ends before the use v begins, u and v have no byte in common
 apart_spans : (u v : Use) (key : KeyName) (q : ℕ) → u.span.from + u.span.len ≤ v.span.from → HoldsByte u.span key q →
     HoldsByte v.span key q → ⊥
 apart_spans u v key q le h m = omega arith
@@ -108,7 +108,7 @@ pub one_use_disjoint : (purpose : Purpose) (o : Option KeyName) (from len : ℕ)
 one_use_disjoint purpose None from len = tt
 one_use_disjoint purpose (Some key) from len = Disjoint-one (use_of purpose key from len)
 
--- the read is for a user and longer than 32 bytes, so a call key serves it
+-- the read is for a user and longer than 32 bytes, so a key made of bytes 32 to 64 (a call key) serves it
 abbrev pub IsLong : Option Taken → Type 0
 IsLong None = ⊥
 IsLong (Some (User n)) = 32 < n
@@ -152,18 +152,18 @@ read_within rekeys key call (User n) k q (inr h) = go (nat_lt 32 n) refl h
     ]
     go false is h = inl (one rekeys h)
 
--- if a choice has the value `z`, then the side that the test selects has the value `z`
+-- if the choice between x and y by `b` is z, then either `b` is true and x is z, or `b` is false and y is z
 pub choice_cases : {A : Type 0} (b : Bool) (x y z : A) → (if b then x else y) ≡ z →
     ((b ≡ true) × (x ≡ z)) ⊎ ((b ≡ false) × (y ≡ z))
 choice_cases true x y z e = inl (refl, e)
 choice_cases false x y z e = inr (refl, e)
 
--- the uses are disjoint, and only of names for which Own holds
+-- the uses `us` are disjoint, and they use only keys with names for which Own holds
 pub record Part (Own : KeyName → Type 0) (us : List Use) : Type 0 where
   pub disjoint : Disjoint us
   pub within : (k : KeyName) (q : ℕ) → IsUsed us k q → Own k
 
--- Own holds for the name and for some number that is at least `from`
+-- Own holds for the name k and for some number that is at least `from`
 pub record OwnFrom (Own : ℕ → KeyName → Type 0) (from : ℕ) (k : KeyName) : Type 0 where
   pub number : ℕ
   pub above : from ≤ number

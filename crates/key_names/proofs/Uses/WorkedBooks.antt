@@ -103,7 +103,7 @@ states_lawful zero zero = record {
 states_lawful zero (suc state) = record { comes = tt; ends = refl }
 states_lawful (suc caller) state = record { comes = tt; ends = refl }
 
--- only the first entry of the only list takes a read
+-- only the first entry of the only vgetrandom state's list takes a read as a key
 only_taker : (caller state place : ℕ) (read : ℕ × ℕ) →
     rekey_in book (record { caller = caller; state = state; place = place }) ≡ Some read →
     (caller ≡ 0) × (state ≡ 0) × (place ≡ 0)
@@ -138,7 +138,7 @@ refills (suc zero) c k is =
     ap (λ d. base_refill_at (cpu_list book d) k) (sym p) ∙ ap (base_refill_at (cpu_list book 0)) (sym q)
 refills (suc (suc b)) c k is = cc
 
--- the book is lawful
+-- the example's book is lawful
 pub book_is_lawful : LawfulBook book
 book_is_lawful = record {
   lanes = record {

@@ -1,4 +1,4 @@
--- The lines of a lawful transcript print the bytes of named spans, and no byte twice.
+-- The lines of a lawful transcript print the bytes of named spans, and no byte of a key twice.
 use Rattle.std.proofs.Common.{◌≡◌, ℕ, suc, ◌+◌, ◌≤◌, ◌<◌, Bool, true, false, List, [], ◌∷◌, ◌++◌, inl, inr, refl, sym, subst, ap, ◌∙◌, arith, Some, length, take, append_assoc, append-nil}
 use Rattle.std.specs.Prelude.{◌==◌, map, slice_get, if◌then◌else◌}
 use Rattle.std.specs.List.{AllByRecursion, list_any}

@@ -12,7 +12,7 @@ use Rattle.key_names.specs.Lanes.Book.{Lists, state_list}
 use Rattle.key_names.specs.Keys.KeyInUse.{zero_key, value_of, cpu_call_value, refill_value, refill_value_from, state_value_step, state_value_after}
 use Rattle.key_names.proofs.Values.Named.{every_front}
 
--- how many of the entries are refills
+-- how many entries of a vgetrandom state's list are refills
 refills_in : List VEntry → ℕ
 refills_in [] = 0
 refills_in (Rekey cpu place ∷ es) = refills_in es

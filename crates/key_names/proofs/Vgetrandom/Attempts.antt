@@ -79,7 +79,7 @@ current_attempt n c published end at_start at_serve at_end s current = record {
   };
 }
 
--- the state after its new key was read
+-- the state after its new key was read; `at_written` is true if the state was wiped at the point Written
 abbrev pub keyed_state : ℕ → List ℕ → Bool → VgetrandomState → VgetrandomState
 keyed_state published key at_written s =
     record (state_left at_written (record s { generation = published })) { key = key; pos = 96 }

@@ -24,7 +24,8 @@ copy_keeps_generation s c n = go (has_left s n)
     go true = refl
     go false = refl
 
--- the state matches its list: it has the same position, any entry may come next, and the served bytes are 0
+-- the state `s` matches its list, after which the names are `t`: the position is the same, any entry may come next, and
+-- the served bytes are 0
 pub record Settled (t : NamedState) (s : VgetrandomState) : Type 0 where
   pub same_pos : t.pos ≡ s.pos
   pub within : s.pos ≤ 96
@@ -55,7 +56,7 @@ module _ (caller state : ℕ) where
   abbrev step : NamedState → VEntry → NamedState
   step = state_step caller state
 
-  -- these entries may come one after another, and `After` holds for the state after them
+  -- the entries `es` may come one after another from the state `t` on, and `After` holds for the state after them
   pub record Keeps (After : NamedState → Type 0) (t : NamedState) (es : List VEntry) : Type 0 where
     pub lawful : LawfulFrom MayFollow (state_step caller state) t es
     pub after : After (fold (state_step caller state) t es)
@@ -104,7 +105,7 @@ module _ (caller state : ℕ) where
             (zero_first (suc r), refl);
       }
 
-  -- a copy of some bytes keeps the list in order
+  -- a copy of at least one byte keeps the list in order
   pub copy_keeps : (t : NamedState) (s : VgetrandomState) (c n : ℕ) → 1 ≤ n → Ready t s →
       Keeps (λ u. Settled u (state_after_copy s c n)) t (copy_entries s c n)
   copy_keeps t s c n some r = go (has_left s n) refl
