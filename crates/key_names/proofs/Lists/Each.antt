@@ -40,7 +40,7 @@ each_left P xs ys all = (each_parts P xs ys all).0
 pub each_right : {X : Type 0} (P : X → Type 0) (xs ys : List X) → AllByRecursion P (xs ++ ys) → AllByRecursion P ys
 each_right P xs ys all = (each_parts P xs ys all).1
 
--- if `P` and `Q` each hold for all elements, then both together hold for each element
+-- if `P` holds for each element of `xs`, and `Q` does too, then both hold together for each element of `xs`
 pub each_both : {X : Type 0} (P Q : X → Type 0) (xs : List X) → AllByRecursion P xs → AllByRecursion Q xs →
     AllByRecursion (λ x. P x × Q x) xs
 each_both P Q [] all all' = tt

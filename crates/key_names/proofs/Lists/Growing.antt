@@ -32,7 +32,7 @@ module _ {S E : Type 0} (May : S → E → Type 0) (step : S → E → S) where
   lawful_take s (x ∷ xs) zero lawful = tt
   lawful_take s (x ∷ xs) (suc i) lawful = (lawful.0, lawful_take (step s x) xs i lawful.1)
 
-  -- if `f` and `g` agree on each entry that may come, then both give the same fold of a lawful list
+  -- if `f` and `g` agree on each entry that may come, then folding a lawful list by `f` and by `g` gives the same value
   pub fold_same : {V : Type 0} (f g : V → E → V) → ((s : S) (e : E) (v : V) → May s e → f v e ≡ g v e) →
       (s : S) (v : V) (xs : List E) →
       LawfulFrom May step s xs → fold f v xs ≡ fold g v xs

@@ -34,7 +34,8 @@ module _ (t : List (List SeenLine)) (book : Book) (visits : VisitsAre book (all_
   abbrev lists : Lists
   lists = lists_of book
 
-  -- if the book has the visit `v` at a place, the book's lists have the entry of `v` at that place
+  -- if the book has the visit `v` at `place` of CPU `c`, the CPU's list has the entry of `v` there; below, the same for
+  -- the pool
   pub cpu_entry_at : (c place : ℕ) (v : Visit CpuEntry) → slice_get (visits_of book c) place ≡ Some v →
       slice_get (cpu_list lists c) place ≡ Some v.entry
   cpu_entry_at c place v at =

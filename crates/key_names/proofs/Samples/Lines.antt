@@ -144,7 +144,7 @@ mark_of t line mark (lines, lines_in, line_in) here =
       event_is = f.event_is;
     }
 
--- each line of a caller has the caller's number, and no two of its lines have the same event
+-- each line of caller c has the number c, and no two lines of the caller have the same event number
 
 number_from : (c n : ℕ) (events : List Event) (lines : List SeenLine) (line : SeenLine) → LinesFit c n events lines →
     IsIn line lines → (line.caller ≡ c) × (n ≤ line.event)

@@ -272,7 +272,7 @@ module _ (t : List (List SeenLine)) (book : Book) (fast : ℕ → ℕ → FastPo
         let same : o.dumps.dump ≡ v = is_the_dump fast (effects o.line) o.dumps v here b.dumps in
         sym o.at ∙ ap (λ (v : CpuVisit). v.place) same
 
-    -- the line and the book have the same fast pool at the dump
+    -- at the dump of `who`, the fast pool that `fast` gives is the fast pool that the book gives
     dumped : (c k : ℕ) (who : Who) (o : OfDump c k who) → DumpAt (visits_of book c) k who →
         fast o.dumps.dump.cpu o.dumps.dump.place ≡ fast_before (visits_of book c) k
     dumped c k who o a = (λ i. fast (o.on i) (o.at i)) ∙ sym (fast_is c k a.visit a.is)

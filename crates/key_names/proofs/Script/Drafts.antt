@@ -118,7 +118,8 @@ fork_above d (Fork child) good =
     omega arith
 fork_above d e good = tt
 
--- if event `e` is added, the number of times that `c` is forked grows by the forks of `c` in `e`
+-- if event `e` is added to the draft `d`, the number of times that `c` is forked grows by the number of times that `e`
+-- forks `c`
 pub times_with : (d : Draft) (e : Event) (c : ℕ)
     → times_forked (blocks_of (with_event d e)) c ≡ times_forked (blocks_of d) c + count_by (is_fork_of c) (e ∷ [])
 times_with d e c = total_split (count_by (is_fork_of c)) (forks_of c) d.done [] d.events (e ∷ []) ∙ omega arith

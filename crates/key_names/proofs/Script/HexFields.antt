@@ -53,7 +53,7 @@ digit_read : (c i : ℕ) (o : Option ℕ) (v : ℕ) → digit_or_error c i o ≡
 digit_read c i (Some w) v h = ap Some (ap (λ (r : Result ℕ FromHexError). result_unwrap_or r 0) h)
 digit_read c i None v h = absurd cc
 
--- bytes decoded from lower-case digits spell those digits
+-- if the lower-case digits `text` decode to `bytes`, then `bytes` are spelt as `text`
 encode_decoded : (i : ℕ) (text bytes : List ℕ) → AllLower text → decode_pairs i text ≡ Ok bytes →
     encode_lower bytes ≡ text
 unfolding decode_pairs encode_with
@@ -90,7 +90,7 @@ dash_only b bytes = false_from_ne_true _ (λ e.
     let same = (bytes_eq-Decides (encode_lower (b ∷ bytes)) (hex [])).0 e in
     omega (arith, ap length same, length-encode_with lower_digits (b ∷ bytes)))
 
--- the spelling of bytes is read as these bytes
+-- the spelling of `bytes` is read as `bytes`
 pub bytes_again : (bytes : List ℕ) → IsBytes bytes → bytes_of (hex bytes) ≡ Some bytes
 bytes_again [] small = refl
 bytes_again (b ∷ bytes) small =
@@ -114,7 +114,7 @@ field_takes field bytes false is e =
     let spelt = spelt_takes field bytes (decode_of field) e in
     (spelt.1, (decode_of-ok field bytes spelt.0).3)
 
--- a field that is read as bytes is their spelling
+-- if `field` is read as `bytes`, then it is the spelling of `bytes`
 pub bytes_takes : (field bytes : List ℕ) → bytes_of field ≡ Some bytes → (field ≡ hex bytes) × IsBytes bytes
 bytes_takes field bytes e = field_takes field bytes (bytes_eq field (hex [])) refl e
 
@@ -143,7 +143,7 @@ none_else field dash not (Some (b ∷ bytes)) e =
     absurd (not (b ∷ bytes) long (rw (is.0) (lower_encoded (b ∷ bytes) is.1))
     (rw (is.0) (decode_of-encode_lower (b ∷ bytes) is.1)))
 
--- a field that is neither a dash nor lower-case digits that decode is not read
+-- if `field` is no dash, and does not consist of lower-case digits that decode to bytes, then it is not read as bytes
 pub bytes_none : (field : List ℕ) → bytes_eq field (hex []) ≡ false
     → ((bytes : List ℕ) → 0 < length field → AllLower field → decode_of field ≡ Ok bytes → ⊥) → bytes_of field ≡ None
 bytes_none field dash not = none_else field dash not (bytes_of field) refl

@@ -87,7 +87,7 @@ by_first version cpus (first ∷ fields) what few is =
           (by_word version cpus fields step.0 what few step.2)
     ]
 
--- the line with this content
+-- the line with the content `what`
 abbrev pub said_line : Said → List ℕ
 said_line what = spaced (said_fields what)
 

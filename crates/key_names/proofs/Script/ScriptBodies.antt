@@ -116,8 +116,8 @@ end_after d next is =
       | inr whole ↦ (whole, same_ok {E = FaultKind} Ends next (rw whole at is))
     ]
 
--- if a draft without a fault and the lines `more` are read as the script s, then `more` is the rest of s after the
--- draft
+-- if reading the lines `more` after a draft without a fault gives the script s, then `more` are the lines of s after
+-- the draft
 abbrev After : List (List ℕ) → Script → Type 0
 After more s = (d : Draft) (n : ℕ) → Fine d → script_from d n more ≡ Ok s → Continues d more s
 
@@ -234,7 +234,7 @@ event_lines es = map (λ e. said_line (SaysEvent e)) es
 abbrev with_events : Draft → List Event → Draft
 with_events d es = record d { events = d.events ++ es }
 
--- reading the events of a block one after another leads to the draft with these events
+-- reading the lines of the events `es` after the draft `d` leads to the draft with these events added
 events_again : (d : Draft) (n : ℕ) (es : List Event) (later : List (List Event)) (line : List ℕ)
     (more : List (List ℕ)) (s : Script)
     → d.cpus ≤ 256 → Whole d.version d.cpus (callers_with d es later)

@@ -30,17 +30,17 @@ keystream-add key from (suc a) b =
 pub length-keystream : (key : List ℕ) (from len : ℕ) → length (keystream key from len) ≡ len
 length-keystream key from len = length-map-range_with_len (λ j. keystream_byte key j) from len
 
--- byte i of a piece is the byte at that position of the keystream
+-- byte i of the piece from byte `from` on is byte `from + i` of the keystream
 pub slice_index-keystream : (key : List ℕ) (from len i : ℕ) → i < len → slice_index (keystream key from len) i ≡
     keystream_byte key (from + i)
 slice_index-keystream key from len i below =
     get_or-map-range_with_len (λ j. keystream_byte key j) from len i (from + i) 0 below refl
 
--- the front of a piece is a piece from the same position
+-- the first n bytes of a piece are the piece of n bytes that begins at the same byte
 pub take-keystream : (key : List ℕ) (from len n : ℕ) → n ≤ len → take n (keystream key from len) ≡ keystream key from n
 take-keystream key from len n within = take-map-range_with_len (λ j. keystream_byte key j) from len n within
 
--- the rest of a piece is a piece from a later position
+-- a piece without its first n bytes is the piece that begins n bytes later
 pub drop-keystream : (key : List ℕ) (from len n : ℕ) → n ≤ len → drop n (keystream key from len) ≡
     keystream key (from + n) (len - n)
 drop-keystream key from len n within =

@@ -171,7 +171,7 @@ module _ (c p : ℕ) where
   abbrev some_read : ℕ → ℕ → Option (ℕ × ℕ)
   some_read cpu place = Some (cpu, place)
 
-  -- `is_here` is 1 for an entry that takes the read
+  -- `is_here` is 1 for an entry that takes the read at place `p` of CPU `c`
   here_is : (cpu place : ℕ) → some_read cpu place ≡ some_read c p → is_here c p cpu place ≡ 1
   here_is cpu place is =
       let a : (cpu == c) ≡ true = eq-eqb cpu c (ap (λ o. option_map_or (λ (x : ℕ × ℕ). x.0) o 0) is) in

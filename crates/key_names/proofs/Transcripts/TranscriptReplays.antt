@@ -45,7 +45,7 @@ module _ (lists : Lists) (caller k : ℕ) (below : k < 16) where
   abbrev Holds : Both → VgetrandomState → Type 0
   Holds = replay.Holds lists caller k
 
-  -- after a call, state k matches the replay of the state's entries
+  -- after the call with the meaning `m`, state k matches the replay `x` with the call's entries for state k added
   pub record Leaves (x : Both) (m : CallMeaning) : Type 0 where
     pub length_is : length m.after.states ≡ 16
     pub holds : Holds (after x (if m.before.current == k then m.entries else [])) (state_number k m.after)
@@ -123,7 +123,7 @@ module _ (lists : Lists) (caller k : ℕ) (below : k < 16) where
   not_true true h = cc
   not_true false h = refl
 
-  -- if the batch alone served a copy, the state after the copy matches the replay of the state's list
+  -- if state k matches the replay `x`, `Leaves` holds after a vread that a copy without a vgetrandom call served
   local_holds : (x : Both) (n : ℕ) (rest : List Effect) (m : CallMeaning) → 1 ≤ n → length m.before.states ≡ 16 →
       Holds x (state_number k m.before) → ByLocalCopy n rest m → Leaves x m
   local_holds x n rest m some len h by =

@@ -43,7 +43,8 @@ not_zero g some = go (g == 0) refl
     go true is = let zero_is : g ≡ 0 = eqb-true g 0 is in absurd (omega arith)
     go false is = is
 
--- `PlainKey` is a system call that reads a key from a CPU without a refill; `RefilledKey` is one with a refill
+-- the effects `call` are those of a system call that reads a key from a CPU: `PlainKey` without a refill, `RefilledKey`
+-- with one
 record PlainKey (call : List Effect) : Type 0 where
   g : ℕ
   look : ℕ
@@ -113,7 +114,8 @@ module _ (book book' : Book) (who : Who) (set : Setting) where
   same_ready ds ds' same ready = let P : List ℕ → Type 0 = λ gs. AllByRecursion (λ g. 1 ≤ g) gs in
       subst P (same_looks book book' who ds ds' same) ready
 
-  -- two system calls that begin at the same step end at the same step, and read their keys from the same visit
+  -- the system calls with the effects `call` and `call'`, one in each book, end at the same step, and read their keys
+  -- from the same visit
   record SameRead (call call' more more' : List Effect) : Type 0 where
     key : List ℕ
     key' : List ℕ
@@ -176,7 +178,7 @@ module _ (book book' : Book) (who : Who) (set : Setting) where
     pub points : V (points_of steps)
     pub points' : V (points_of steps')
 
-  -- a later moment of the vread, at which these steps are left in the two books
+  -- a later moment of the vread, at which the host's steps `steps` and `steps'` are left in the two books
   pub record Further (V : List PointReached → Type 0) (steps steps' : List HostStep) (ds ds' : List Effect) : Type 0 where
     pub effects : List Effect
     pub effects' : List Effect

@@ -57,11 +57,11 @@ module _ (caller state : ℕ) (rekeys : ℕ → Option (ℕ × ℕ)) where
     pub from : 64 * s.batch_from + s.pos ≤ q
     pub below : q < 64 * s.batch_from + 96
 
-  -- the bytes that entries after this state may use
+  -- entries after the state s may use byte q of the key k
   abbrev pub MayUse : NamedState → KeyName → ℕ → Type 0
   MayUse s k q = ((s.key ≡ Some k) × IsUnused s.expected q) ⊎ InBatch s k q ⊎ IsLater s.place s.refills k
 
-  -- the keys that the vgetrandom state may have now or later
+  -- the vgetrandom state may have the key k after the entries that lead to s, or later
   abbrev pub MayHold : NamedState → KeyName → Type 0
   MayHold s k = (s.key ≡ Some k) ⊎ IsLater s.place s.refills k
 

@@ -24,7 +24,7 @@ pub used_second : (us vs : List Use) (key : KeyName) (q : ℕ) → IsUsed vs key
 used_second [] vs key q h = h
 used_second (u ∷ us) vs key q h = inr (used_second us vs key q h)
 
--- the parts of a disjoint list are disjoint too, and no byte is in both
+-- the lists `us` and `vs` are both disjoint, and no byte is in both lists
 pub record DisjointParts (us vs : List Use) : Type 0 where
   pub first : Disjoint us
   pub second : Disjoint vs
@@ -43,7 +43,7 @@ disjoint_parts (u ∷ us) vs d =
       ];
     }
 
--- two disjoint lists, joined, are disjoint if no byte is in both
+-- if `us` and `vs` are disjoint, and no byte is in both lists, then `us ++ vs` is disjoint
 pub Disjoint-append : (us vs : List Use) → Disjoint us → Disjoint vs →
     ((key : KeyName) (q : ℕ) → IsUsed us key q → IsUsed vs key q → ⊥) → Disjoint (us ++ vs)
 Disjoint-append [] vs a b apart = b
@@ -203,7 +203,7 @@ used_from f from (suc count) k q h =
     elim (IsUsed-append_cases (f from) (flat_map f (range_with_len (from + 1) count)) k q h)
     [ inl a ↦ (from, a) | inr b ↦ used_from f (from + 1) count k q b ]
 
--- if a byte is among the uses of all numbers below `count`, it is among the uses of some number
+-- if a byte is in the uses `f n` of all numbers n below `count` together, it is in `f n` for some number n
 pub used_below : (f : ℕ → List Use) (count : ℕ) (k : KeyName) (q : ℕ) → IsUsed (uses_below count f) k q →
     (n : ℕ) × IsUsed (f n) k q
 used_below f count k q h = used_from f 0 count k q h

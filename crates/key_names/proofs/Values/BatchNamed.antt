@@ -126,7 +126,7 @@ module _ (lists : Lists) (caller k : ℕ) where
       left : ℕ
       left = bytes_left s
 
-      -- the first `len` unserved bytes of the batch are those that the entry for them serves
+      -- the entry for serving `len` bytes of the batch serves the first `len` unserved bytes of the batch
       front : (len : ℕ) → len ≤ 96 - s.pos →
           take len (drop s.pos s.batch) ≡ served_in lists (entry_uses x.named (serve_entry s.pos len))
       front zero le = refl
@@ -371,8 +371,8 @@ module _ (lists : Lists) (caller k : ℕ) where
   system_named n flags x s steps outcome by fronts out ends =
       let e : by_system by.answer ≡ by_batch out = sym (ap (λ (o : Outcome). o.ending) by.outcome_is) ∙ ends in cc
 
-  -- if AttemptNamed holds for an attempt, and OutcomeNamed for the rest of its call, then OutcomeNamed holds for both
-  -- together
+  -- if AttemptNamed holds for an attempt, and OutcomeNamed for the rest of its call, then OutcomeNamed holds for the
+  -- attempt and the rest together
   pub rest_named : (n flags : ℕ) (Outdated : ℕ → VgetrandomState → List HostStep → Outcome → Type 0)
       (Tried : List HostStep → Attempt → Type 0) (x : Both) (steps : List HostStep) (outcome : Outcome) →
       ((tried : List HostStep) (attempt : Attempt) → Good lists tried → Tried tried attempt → AttemptNamed x attempt) →

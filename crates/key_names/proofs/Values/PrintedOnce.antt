@@ -100,7 +100,7 @@ module _ (lists : Lists) (lanes : ForwardLawful lists) (states : LawfulStates li
       ((own_uses lists lanes states (holder o)).within k q (of_holder o k q h))
       ((own_uses lists lanes states (holder x)).within k q (of_holder x k q m))
 
-  -- two entries that use the same byte are the same entry
+  -- if the entries `o` and `x` use the same byte, they are the same entry
   meet : (o x : Origin) (k : KeyName) (q : ℕ) → IsUsed (origin_uses lists o) k q →
       IsUsed (origin_uses lists x) k q → is_same o x ≡ 1
   meet (at_lane PoolLane place) x k q h m = absurd h

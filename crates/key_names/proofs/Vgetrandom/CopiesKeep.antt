@@ -73,7 +73,8 @@ module _ (caller state : ℕ) where
       Keeps After t es → Keeps Also t es
   keeps_weaker After Also weaker t es h = record { lawful = h.lawful; after = weaker _ h.after }
 
-  -- the entry for serving some bytes of the batch keeps the list in order
+  -- let any entry be allowed next, and let the batch have n more bytes. Then the entry for serving them keeps the list
+  -- in order
   pub serve_keeps : (t : NamedState) (s : VgetrandomState) (n : ℕ) → t.expected ≡ anything → t.pos ≡ s.pos →
       s.pos + n ≤ 96 →
       Keeps (λ u. (u.pos ≡ s.pos + n) × (u.expected ≡ anything)) t (serve_entry s.pos n)
@@ -113,7 +114,7 @@ module _ (caller state : ℕ) where
       fits : nat_le n (bytes_left s) ≡ true → s.pos + n ≤ 96
       fits is = let le : n ≤ 96 - s.pos = leb-true n (bytes_left s) is in let w = r.within in omega arith
 
-      -- the key is not new in this case, since a new key leaves no bytes in the batch
+      -- if the batch has n bytes left, the key is not new, since a new key leaves no bytes in the batch
       old : nat_le n (bytes_left s) ≡ true → (t.expected ≡ anything) × (t.pos ≡ s.pos) × StartsZero s.pos s.batch
       old is = elim r.expects [
         | inl batch ↦ batch

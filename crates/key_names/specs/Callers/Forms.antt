@@ -37,7 +37,7 @@ pub record BaseOnly (entry : BaseEntry) (effects : List Effect) : Type 0 where
   pub effects_are : effects ≡ at_base base ∷ []
   pub is : base.entry ≡ entry
 
--- CROSS: the effects that follow a credit, by the threshold that it crosses
+-- CROSS: the effects that follow a credit, for each threshold that the credit can cross
 abbrev pub Cross : Setting → Crossing → List Effect → Type 0
 Cross set none effects = effects ≡ []
 Cross set ready effects = Rooted set (λ r. Reseeded r set.now) effects
@@ -95,7 +95,7 @@ pub record Waited (set : Setting) (n : ℕ) (effects : List Effect) : Type 0 whe
   pub resumes : resume.entry ≡ Resume
   pub reads : MatchBool (n == 0) (rest ≡ []) (CpuReadForm set (User n) rest)
 
--- SYS after its first look, which found generation g
+-- SYS after its first look, which found generation g; `rest` are the effects after that look
 abbrev pub LookedForm : Setting → ℕ → ℕ → ℕ → List Effect → Type 0
 LookedForm set n flags g rest =
     MatchBool (g == 0 && not (is_insecure flags))
@@ -179,8 +179,8 @@ pub record RefilledBatch (set : Setting) (width : ℕ) (effects : List Effect) :
   pub refills : base.entry ≡ Refill set.cpu cpu.place
   pub serves : cpu.entry ≡ Int look (Some base.place) width true
 
--- an integer. If the call's first look found the core not ready, a kernel read serves the integer. Otherwise a batch
--- serves it
+-- an integer, after the call's first look, which found generation g. If g is 0, the core is not ready, and a kernel
+-- read serves the integer. Otherwise a batch serves it
 abbrev pub IntForm : Setting → ℕ → ℕ → List Effect → Type 0
 IntForm set width g rest =
     (g ≡ 0) × (DrawForm set (Kernel width) rest ⊎ CpuReadForm set (Kernel width) rest)

@@ -58,7 +58,7 @@ pub record CallMeaning : Type 0 where
   pub before : CallerState
   pub after : CallerState
 
--- the entries that an event by itself appends to the current state's list
+-- the entries that an event, if it is a call by itself, appends to the list of the current vgetrandom state
 abbrev pub event_entries : Event → List VEntry
 event_entries Drop = Wipe ∷ []
 event_entries (At moment) = []
@@ -89,13 +89,13 @@ event_entries (Online cpu) = []
 event_entries (Vmfork word text) = []
 event_entries (State number) = []
 
--- the caller's state after an event by itself
+-- the caller's state after an event that is a call by itself
 abbrev pub caller_after : CallerState → Event → CallerState
 caller_after s Drop = with_state s wiped_state
 caller_after s (State number) = record s { current = number }
 caller_after s event = record s { setting = setting_after s.setting event }
 
--- the meaning of an event by itself
+-- the meaning of an event that is a call by itself
 pub record AloneMeans (event : Event) (m : CallMeaning) : Type 0 where
   pub form : Form m.before.setting event m.own.effects
   pub answer : m.own.answer ≡ answer_of event m.own.effects

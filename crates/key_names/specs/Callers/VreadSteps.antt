@@ -23,7 +23,8 @@ use Rattle.key_names.specs.Callers.Answers.{system_answer, served_bytes}
 use Rattle.key_names.specs.Kernel.Vgetrandom.{CpuPlace, SystemAnswer, read, failed, HostStep, publishes, system_call, at_point}
 use Rattle.key_names.specs.Kernel.Vgetrandom.{Ending, no_bytes, by_batch, by_system}
 
--- the published generation if a look finds this generation: the next number if the core is ready, and otherwise 0
+-- the generation that the host publishes if its look finds this generation: the next number if the core is ready, and
+-- otherwise 0
 abbrev pub published_by : ℕ → ℕ
 published_by zero = 0
 published_by (suc g) = suc (suc g)
@@ -60,7 +61,8 @@ answer_with (Some errno) effects = failed errno
 abbrev pub answer_after : ℕ → List Effect → SystemAnswer
 answer_after flags effects = answer_with (errno_of (system_answer flags effects)) effects
 
--- the effects begin with a system call of n bytes, and `Rest` holds for the effects after that call
+-- the effects begin with those of a system call for n bytes, which gives `answer`, and `Rest` holds for the effects
+-- after that call
 pub record SystemCallShows (set : Setting) (n flags : ℕ) (answer : SystemAnswer) (Rest : List Effect → Type 0)
     (effects : List Effect) : Type 0 where
   pub call : List Effect
@@ -82,7 +84,7 @@ pub record PointReached : Type 0 where
   pub point : Point
   pub wiped : Bool
 
--- the points that the steps reach, in both attempts
+-- the points that the host's steps reach, in both attempts
 abbrev pub points_of : List HostStep → List PointReached
 points_of [] = []
 points_of (publishes g ∷ steps) = points_of steps
@@ -92,7 +94,7 @@ points_of (at_point point wiped ∷ steps) = record { point = point; wiped = wip
 abbrev pub is_start : PointReached → Bool
 is_start reached = is_same_point reached.point Start
 
--- the points of this list before its first Start, and the points from that Start on
+-- the points of a list before its first Start; below, the points from that Start on
 abbrev pub before_start : List PointReached → List PointReached
 before_start [] = []
 before_start (reached ∷ points) = if is_start reached then [] else reached ∷ before_start points
@@ -101,7 +103,8 @@ abbrev pub from_start : List PointReached → List PointReached
 from_start [] = []
 from_start (reached ∷ points) = if is_start reached then reached ∷ points else from_start points
 
--- the points of the first attempt, and those of the second. The first of all points is the Start of the first attempt
+-- the points of the first attempt; below, those of the second. The first of all points is the Start of the first
+-- attempt
 abbrev pub first_points : List PointReached → List PointReached
 first_points [] = []
 first_points (start ∷ points) = start ∷ before_start points

@@ -12,7 +12,7 @@ use Rattle.key_names.specs.Kernel.VgetrandomState.{VgetrandomState}
 abbrev pub bytes_left : VgetrandomState → ℕ
 bytes_left s = 96 - s.pos
 
--- how many whole blocks of the keystream a copy of n bytes needs, and how many bytes of a new batch it needs
+-- how many whole blocks of the keystream a copy of n bytes needs; below, how many bytes of a new batch it needs
 abbrev pub whole_blocks : VgetrandomState → ℕ → ℕ
 whole_blocks s n = (n - bytes_left s) / 64
 

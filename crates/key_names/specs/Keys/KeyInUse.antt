@@ -36,7 +36,7 @@ abbrev pub base_value_step : List PoolEntry → List ℕ → BaseEntry → List 
 base_value_step pool value e =
     if base_erases e then keystream (base_value_in_use pool e value) 0 32 else base_value_in_use pool e value
 
--- the value of the base's key after these entries
+-- the value of the base's key after the entries `base`
 abbrev pub base_value_after : List PoolEntry → List BaseEntry → List ℕ
 base_value_after pool base = fold (base_value_step pool) zero_key base
 
@@ -65,7 +65,7 @@ abbrev pub cpu_value_step : Lists → List ℕ → CpuEntry → List ℕ
 cpu_value_step lists value e =
     if cpu_erases e then keystream (cpu_value_in_use lists e value) 0 32 else cpu_value_in_use lists e value
 
--- the value of a CPU's key after these entries
+-- the value of a CPU's key after the entries `es`
 abbrev pub cpu_value_after : Lists → List CpuEntry → List ℕ
 cpu_value_after lists es = fold (cpu_value_step lists) zero_key es
 

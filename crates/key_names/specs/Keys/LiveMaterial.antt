@@ -66,7 +66,7 @@ abbrev pub served_len : Lists → BatchHolder → ℕ
 served_len lists (cpu_batch c width) = batch_pos width ((cpu_end lists c).fills width)
 served_len lists (state_batch caller state) = (state_end lists caller state).pos
 
--- an entry that names a root replaces the base's key, and an entry that erases replaces the key in use
+-- the entry `e` replaces `key`: it names a root, and `key` is the base's key; or it erases, and `key` is the key in use
 abbrev pub BaseReplaces : KeyName → BaseState → BaseEntry → Type 0
 BaseReplaces key s e =
     (IsSome (root_of e) × (s.key ≡ Some key)) ⊎ (IsTrue (base_erases e) × (base_key_in_use e s.key ≡ Some key))
@@ -134,7 +134,7 @@ replayed_batch lists (state_batch caller state) =
 
 -- the book is erased; `batch` gives the bytes of each batch
 pub record IsErased (lists : Lists) (batch : BatchHolder → List ℕ) : Type 0 where
-  -- a key that an entry replaced is live nowhere
+  -- no holder still has a key that an entry replaced
   pub none_replaced : (a b : KeyHolder) (key : KeyName) → live_key lists a ≡ Some key → WasReplaced lists b key → ⊥
   -- no two live keys have the same name
   pub keys_apart : (a b : KeyHolder) (key : KeyName) → live_key lists a ≡ Some key → live_key lists b ≡ Some key → a ≡ b

@@ -90,7 +90,7 @@ pub record StatePlace : Type 0 where
   pub state : ℕ
   pub place : ℕ
 
--- the read that an entry of a state takes as its key
+-- the read (its CPU and place) that an entry of a vgetrandom state takes as the state's key
 abbrev pub rekey_in : Lists → StatePlace → Option (ℕ × ℕ)
 rekey_in lists at = rekey_at (state_list lists at.caller at.state) at.place
 
