@@ -73,7 +73,7 @@ module _ (t : List (List SeenLine)) (book : Book) (visits : VisitsAre book (all_
   -- ---- each visit is an effect of the line of its event
 
   module _ (places : (lane : LaneId) → PlacesConform (lane_marks lane (all_marks t))) where
-    -- the maker of the visit at a place, and the line that has the visit's mark
+    -- the stamp and the maker of the visit at `place` of `lane`, and the line that has the visit's mark
     record MadeAt (lane : LaneId) (place : ℕ) : Type 0 where
       stamp : ℕ
       who : Who

@@ -39,7 +39,7 @@ look_some : (look g : ℕ) → g ≡ published_by look → 1 ≤ g → 1 ≤ loo
 look_some zero g is some = let p : g ≡ 0 = is in absurd (omega arith)
 look_some (suc look) g is some = omega arith
 
--- if each look of a line found the core ready, then the steps that the line shows are good
+-- if each look of a line found the core ready, then the host's steps that the line shows are good
 good_shown : (lists : Lists) (set : Setting) (steps : List HostStep) (effects : List Effect) → AllThere lists effects →
     AllKnown 1 (looks_of effects) → Shows set steps effects → Good lists steps
 good_shown lists set [] effects there known shows = tt

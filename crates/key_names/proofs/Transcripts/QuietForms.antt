@@ -149,7 +149,7 @@ module _ (fast : ℕ → ℕ → FastPool) where
   pub end_quiet : (effects : List Effect) → EndForm effects → Quiet effects
   end_quiet effects f = base_only _ effects f
 
-  -- if an event is not an interrupt, its samples are correct
+  -- if an event is not an interrupt, SamplesConform holds for its effects
   pub form_samples : (set : Setting) (event : Event) (effects : List Effect) → IsNoInterrupt event → Form set event effects →
       SamplesConform fast effects
   form_samples set event effects other f = inl (quiet set event effects other f)

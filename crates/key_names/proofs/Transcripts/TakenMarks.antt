@@ -204,7 +204,7 @@ at_most_once q ms conform = elim (lt_or_le q (length ms)) [
         from_range (λ place. count_by (λ mark. mark.place == place) ms ≡ 1) 0 (length ms) conform.once i lt in
         sym (at_is_count i ms) ∙ sym (ap (λ j. count_by (λ mark. mark.place == j) ms) p) ∙ e
 
--- all lines together have at most one mark of a place
+-- if PlacesConform holds for the marks of `lane`, all lines together have at most one mark of place `p` of `lane`
 pub one_mark : (lane : LaneId) (p : ℕ) (t : List (List SeenLine)) → PlacesConform (lane_marks lane (all_marks t)) →
     total_takes lane p t ≤ 1
 one_mark lane p t conform =

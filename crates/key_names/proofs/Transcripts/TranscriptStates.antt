@@ -24,7 +24,7 @@ use Rattle.key_names.proofs.Lists.Each.{each_append}
 use Rattle.key_names.proofs.Vgetrandom.KeyReads.{copy_names, call_names}
 use Rattle.key_names.proofs.Transcripts.KeyVisits.{AllThere, all_there, key_reads}
 
--- after `x` is set as element `i` of a list, element `i` is `x`
+-- if element `i` of `xs` is set to `x`, then element `i` is `x`
 pub set_here : {A : Type 0} (xs : List A) (i : ℕ) (x : A) → i < length xs → slice_get (slice_set xs i x) i ≡ Some x
 set_here [] i x lt = absurd (omega arith)
 set_here (y ∷ ys) zero x lt = refl

@@ -35,7 +35,7 @@ module _ (book book' : Book) (who : Who) where
     pub dumps : IsDump v.entry → DumpAt (visits_of book v.cpu) v.place who
     pub dumps' : IsDump v'.entry → DumpAt (visits_of book' v'.cpu) v'.place who
 
-  -- the two effects are those that one step has in the two books
+  -- one step has the two effects, the first in `book` and the second in `book'`
   abbrev pub SameStep : Effect → Effect → Type 0
   SameStep (looked g) (looked g') = g ≡ g'
   SameStep (at_pool v) (at_pool v') = SamePool v v'

@@ -123,7 +123,7 @@ entry_uses s Interrupt = none_used s Interrupt refl
 entry_uses s Stall = none_used s Stall refl
 entry_uses s Unstall = none_used s Unstall refl
 
--- the base's key in a state has an old name
+-- the name of the base's key in the state s is old (`IsOld`)
 abbrev pub KeyIsOld : BaseState → Type 0
 KeyIsOld s = (k : KeyName) → s.key ≡ Some k → IsOld s.place s.roots k
 

@@ -8,7 +8,7 @@ use Rattle.key_names.specs.Keys.Uses.{kept, served, use_of, IsUsed, Disjoint, ba
 use Rattle.key_names.specs.Kernel.Batches.{Fill, one_more_served}
 use Rattle.key_names.proofs.Uses.UseLists.{UsesByte, one_use, one_use_disjoint, choice_cases}
 
--- byte q of the key is in a batch that was filled with the key, and the byte was not served yet
+-- byte q of the key is in a batch of the CPU that was filled with the key, and was not served yet
 pub record InBatch (fills : ℕ → Option Fill) (key : KeyName) (q : ℕ) : Type 0 where
   pub width : ℕ
   pub fill : Fill

@@ -112,7 +112,7 @@ named_byte (Some key) from len span k q is h =
     let b : HoldsByte (record { key = key; from = from; len = len }) k q = subst P (sym e) h in
     record { key_is = ap Some b.same_key; above = b.from; below = b.below }
 
--- a byte in the unserved span of a CPU's batch is in the batch
+-- if byte q of key k is in the unserved span of a CPU's batch, then it is in the batch (`InBatch`)
 pub fill_byte : (fills : ℕ → Option Fill) (width : ℕ) (span : Span) (k : KeyName) (q : ℕ) →
     fill_rest width (fills width) ≡ Some span → HoldsByte span k q → (b : InBatch fills k q) × (b.width ≡ width)
 fill_byte fills width span k q is h = go (fills width) refl is

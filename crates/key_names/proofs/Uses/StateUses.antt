@@ -51,7 +51,7 @@ module _ (caller state : ℕ) (rekeys : ℕ → Option (ℕ × ℕ)) where
   abbrev pub IsLater : ℕ → ℕ → KeyName → Type 0
   IsLater place refills k = KeptFrom refills k ⊎ TakenFrom place k
 
-  -- byte q of the key is in the batch, and the byte was not served yet
+  -- byte q of the key k is in the batch of the state s, and was not served yet
   pub record InBatch (s : NamedState) (k : KeyName) (q : ℕ) : Type 0 where
     pub key_is : s.batch_key ≡ Some k
     pub from : 64 * s.batch_from + s.pos ≤ q
@@ -88,8 +88,8 @@ module _ (caller state : ℕ) (rekeys : ℕ → Option (ℕ × ℕ)) where
   later_next : (s : NamedState) (k : KeyName) → IsLater (suc s.place) s.refills k → IsLater s.place s.refills k
   later_next s k l = later_less s.place s.refills s.refills k (omega arith) l
 
-  -- only entries from this place on can use the name of the read that a rekey takes, or the name of the key that a
-  -- refill keeps
+  -- if k is the name of the read that the rekey at the next place takes, IsLater holds for k; below, the same for the
+  -- key that a refill keeps
   taken_here : (s : NamedState) (cpu cpu_place : ℕ) (k : KeyName) → rekeys s.place ≡ Some (cpu, cpu_place) →
       Call (CpuLane cpu) cpu_place ≡ k →
       IsLater s.place s.refills k

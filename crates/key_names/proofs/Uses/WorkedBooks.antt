@@ -18,7 +18,8 @@ use Rattle.key_names.specs.Lanes.Book.{Lists, cpu_list, state_list, LawfulBook, 
 use Rattle.key_names.specs.Keys.Uses.{kept, served, use_of, uses}
 use Rattle.key_names.specs.Keys.LiveMaterial.{base_key, cpu_key, state_key, cpu_batch, state_batch, live_key, live_rest, named_span}
 
--- a book with one reseed. A CPU fills a batch and reads a key for a vgetrandom state, which serves 140 bytes
+-- a book with one reseed. A CPU fills a batch, and a read from that CPU gives a vgetrandom state its key. The state
+-- serves 140 bytes
 abbrev book : Lists
 book = record {
   pool = Mix [] 256 ∷ Extract (replicate 32 0) 0 ∷ [];

@@ -94,7 +94,7 @@ module _ (lists : Lists) where
   abbrev pub IsFree : List Effect → Type 0
   IsFree effects = (c p : ℕ) → is_rekeyed lists c p ≡ true → place_takes c p (last_place effects) ≡ 0
 
-  -- the line has no mark of a read that a vgetrandom state takes, so IsFree holds for its effects
+  -- the line has no mark of a read that a vgetrandom state takes as its key, so IsFree holds for the line's effects
   abbrev pub IsUntaken : SeenLine → Type 0
   IsUntaken line = (c p : ℕ) → is_rekeyed lists c p ≡ true → mark_takes (CpuLane c) p line.steps ≡ 0
 

@@ -48,7 +48,7 @@ module _ (lists : Lists) (caller state : ℕ) where
   refill_value_at v (Serve pos len ∷ front) from rest = refill_value_at v front from rest
   refill_value_at v (Wipe ∷ front) from rest = refill_value_at zero_key front from rest
 
-  -- the key after a prefix of the list has the value of its name
+  -- the state's key after `front`, a prefix of the list, has the value of its name
   abbrev pub StateNamed : List VEntry → Type 0
   StateNamed front = (k : KeyName) → (state_after caller state front).key ≡ Some k →
       value_of lists k ≡ state_value_after lists front

@@ -142,8 +142,8 @@ pub record DumpForm (set : Setting) (effects : List Effect) : Type 0 where
   pub dumps : dump.entry ≡ Dump set.now
   pub mixes : CreditForm set (Mix text bits) rest
 
--- an interrupt: its sample alone; or its sample, then a dump and the dump's mix, and then the effects of the threshold
--- that the mix crosses
+-- an interrupt: the visit for its sample alone; or that visit, then a dump and the dump's mix, and then the effects of
+-- the threshold that the mix crosses
 pub record IrqForm (set : Setting) (v1 v2 : ℕ) (effects : List Effect) : Type 0 where
   pub sample : CpuVisit
   pub rest : List Effect

@@ -158,7 +158,7 @@ ending_shown no_bytes = no_data
 ending_shown (by_batch bytes) = bytes_or_none bytes
 ending_shown (by_system answer) = system_line_shown answer
 
--- the looks among some effects
+-- the generations that the looks among some effects found
 abbrev pub looks_of : List Effect → List ℕ
 looks_of [] = []
 looks_of (looked g ∷ effects) = g ∷ looks_of effects

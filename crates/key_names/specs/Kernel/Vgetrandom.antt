@@ -91,7 +91,7 @@ pub record Keyed (n c : ℕ) (key : List ℕ) (visit : Option CpuPlace) (s : Vge
   pub goes_on : AtPoint Serve (FromServe n c) (record s { key = key; pos = 96 }) steps attempt_after
   pub attempt_is : attempt ≡ prefix_attempt (rekey_entry visit) attempt_after
 
--- the system call for a new key failed. The key may then be any list of bytes
+-- the system call for a new key failed. The state's key may then be any list of bytes
 pub record NotKeyed (c : ℕ) (s : VgetrandomState) (steps : List HostStep) (attempt : Attempt) : Type 0 where
   pub key : List ℕ
   pub steps_are : steps ≡ []

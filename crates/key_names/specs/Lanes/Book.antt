@@ -17,7 +17,7 @@ pub record Visit (E : Type 0) : Type 0 where
   pub who : Who
   pub entry : E
 
--- the visits of each lane, and the entries of each caller's states
+-- the visits of each lane, and the entries of each caller's vgetrandom states
 pub record Book : Type 0 where
   pub pool : List (Visit PoolEntry)
   pub base : List (Visit BaseEntry)

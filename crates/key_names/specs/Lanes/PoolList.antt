@@ -71,7 +71,7 @@ base_place_of (Extract hw base_place) = Some base_place
 abbrev pub extraction_at : List PoolEntry → ℕ → Option ℕ
 extraction_at pool p = option_and_then base_place_of (slice_get pool p)
 
--- the root that an extraction gives
+-- the root that an extraction in the state s gives, with the hardware's bytes `hw`
 abbrev pub root_of_extraction : PoolState → List ℕ → List ℕ
 root_of_extraction s hw = blake2s (Some (seed s)) (seed_block hw 1)
 

@@ -316,7 +316,7 @@ after d SaysEnd = if has_orphan d then Err Unforked else Ok Ends
 abbrev pub after_line : Draft → List ℕ → Result Next FaultKind
 after_line d line = said d.version d.cpus line >>= after d
 
--- line 3 begins the block of caller 0
+-- the draft after line 3, which begins the block of caller 0
 abbrev pub first_block : ℕ → ℕ → Said → Result Draft FaultKind
 first_block version cpus (SaysCaller zero) = Ok (record { version = version; cpus = cpus; done = []; events = [] })
 first_block version cpus _ = Err BadCaller

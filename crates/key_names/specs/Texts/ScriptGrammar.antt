@@ -226,7 +226,7 @@ pub record WellFormed (s : Script) : Type 0 where
   pub reads : sum_by (sum_by bytes_read) s.callers ≤ 16777216
   pub text : length (script_text s) ≤ 16777216
 
--- the text is the script's, and the script is well formed
+-- the script s is well formed, and the text is the text of s
 pub record IsScript (s : Script) (text : List ℕ) : Type 0 where
   pub well_formed : WellFormed s
   pub spelt : text ≡ script_text s

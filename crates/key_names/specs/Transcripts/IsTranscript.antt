@@ -63,7 +63,7 @@ marks_from c n i (Look g ∷ steps) = marks_from c n (suc i) steps
 marks_from c n i (Marked mark ∷ steps) =
     record { mark = mark; who = record { caller = c; event = n; step = i } } ∷ marks_from c n (suc i) steps
 
--- the marks of one line, and then of all lines of all callers
+-- the marks of one line; below, the marks of all lines of all callers
 abbrev pub line_marks : SeenLine → List MarkBy
 line_marks line = marks_from line.caller line.event 0 line.steps
 
@@ -136,13 +136,13 @@ EachOfCall P (vread_call len flags line acts) m = P line m.own × EachAct P acts
 EachOfCall P (unbound bound) m = P bound.line m.own
 EachOfCall P (ending line) m = P line m.own
 
--- P holds for each line and its meaning
+-- P holds for each line of a caller's calls and that line's meaning
 abbrev pub EachLine : (SeenLine → LineMeaning → Type 0) → List Call → List CallMeaning → Type 0
 EachLine P [] [] = ⊤
 EachLine P (call ∷ calls) (m ∷ ms) = EachOfCall P call m × EachLine P calls ms
 EachLine P _ _ = ⊥
 
--- the entries that these calls append to the list of vgetrandom state k
+-- the entries that calls with the meanings `ms` append to the list of vgetrandom state k
 abbrev pub entries_of_state : ℕ → List CallMeaning → List VEntry
 entries_of_state k [] = []
 entries_of_state k (m ∷ ms) = (if m.before.current == k then m.entries else []) ++ entries_of_state k ms

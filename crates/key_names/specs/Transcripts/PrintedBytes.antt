@@ -74,7 +74,7 @@ pub record LinePrints (lists : Lists) (own : StateEntries) (line : SeenLine) (or
   pub by : PrintsBy own line.steps origins
   pub shown : bytes_in line.shown ≡ served_in lists (origins_uses lists origins)
 
--- the lines of a call, the call's own first
+-- the lines of a call: its own line first, and then those of the acts inside it
 abbrev pub call_lines : Call → List SeenLine
 call_lines (alone event line) = line ∷ []
 call_lines (vread_call len flags line acts) = line ∷ map (λ (bound : BoundAct). bound.line) acts
