@@ -64,7 +64,7 @@ pub enum BaseEntry {
     Resume,
     /// A waiting read gives up, since no running caller is left that could make the core ready.
     Interrupt,
-    /// A caller stops because its fork got no thread, and runs the child itself.
+    /// A caller pauses, because no thread could be started for its child, and runs the child itself.
     Stall,
     /// A stalled caller goes on after it ran its child.
     Unstall,

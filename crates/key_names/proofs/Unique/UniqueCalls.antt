@@ -151,7 +151,8 @@ module _ (book book' : Book) (who : Who) (set : Setting) where
           more more' by by' h.shows h.shows' h.same
 
   module _ (acts : List BoundAct) where
-    -- what WipesConform requires of the points that are left, in the first attempt and in the second
+    -- what WipesConform requires in the first attempt of the points that are left; below, what it requires in the
+    -- second
     abbrev InFirst : List PointReached → Type 0
     InFirst points = AllByRecursion (λ r. r.wiped ≡ is_wiped acts r.point) (before_start points)
         × AllByRecursion (λ r. r.wiped ≡ false) (from_start points)

@@ -158,7 +158,8 @@ pub record ByBatch (out : List ℕ) (s : VgetrandomState) (steps : List HostStep
   pub steps_are : steps ≡ []
   pub outcome_is : outcome ≡ record { ending = by_batch out; state = state_after_call s; entries = [] }
 
--- the steps after an attempt. If the attempt ended as `outdated`, `Outdated` holds for these steps
+-- the steps after an attempt. If the attempt held, no step follows. If it is outdated, `Outdated` holds for the steps.
+-- If it got no new key, the call goes to the system
 abbrev pub AfterAttempt : ℕ → ℕ → (ℕ → VgetrandomState → List HostStep → Outcome → Type 0) → AttemptEnd → Attempt →
     List HostStep → Outcome → Type 0
 AfterAttempt n flags Outdated holds attempt steps outcome = ByBatch attempt.out attempt.state steps outcome
