@@ -17,7 +17,7 @@ pub enum Taken {
 /// An entry of the pool's list.
 #[derive(Drop)]
 pub enum PoolEntry {
-    /// The text is mixed, and `bits` are credited.
+    /// `text` is mixed into the pool, and `bits` are credited.
     Mix {
         text: Text,
         bits: u32,
@@ -30,7 +30,7 @@ pub enum PoolEntry {
         value: u8,
         now: u64,
     },
-    /// The credited bits are read.
+    /// The number of credited bits is read.
     Bits,
     /// A root is extracted for the base's place `base_place`, with 32 bytes from the hardware.
     Extract {
@@ -47,7 +47,7 @@ pub enum BaseEntry {
     Early { root: Option<u64> },
     /// A reseed (`crng_reseed`).
     Reseed { root: u64, now: u64 },
-    /// The reseed timer is checked. The entry has a root if the timer was due.
+    /// The reseed timer is checked. If the timer was due, the core is reseeded with `root`.
     Tick { now: u64, root: Option<u64> },
     /// A read from the base before the core is ready. The root replaces the base's key if the base was
     /// empty (`crng_make_state`).
@@ -60,13 +60,13 @@ pub enum BaseEntry {
     End,
     /// A read begins to wait until the core is ready (`wait_for_random_bytes`).
     Wait,
-    /// The read goes on, since the core is ready.
+    /// A waiting read goes on, since the core is ready.
     Resume,
-    /// The read gives up, since no running caller is left that could make the core ready.
+    /// A waiting read gives up, since no running caller is left that could make the core ready.
     Interrupt,
-    /// A caller stops because its fork got no thread, and runs the child itself.
+    /// A caller pauses, because no thread could be started for its child, and runs the child itself.
     Stall,
-    /// The caller goes on after its child.
+    /// A stalled caller goes on after it ran its child.
     Unstall,
 }
 

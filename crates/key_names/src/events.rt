@@ -33,25 +33,25 @@ pub enum Event {
     Hw {
         bytes: HardwareWords,
     },
-    /// A word (in the kernel the cycle counter) and bytes are mixed (`add_device_randomness`).
+    /// `word` (in the kernel the cycle counter) and `text` are mixed into the pool (`add_device_randomness`).
     Device {
         word: u64,
         text: Text,
     },
-    /// Bytes are mixed (`write_pool_user`).
+    /// `text` is mixed into the pool (`write_pool_user`).
     Write {
         text: Text,
     },
-    /// Bytes are mixed, and bits below 2^31 are credited (ioctl `RNDADDENTROPY`).
+    /// `text` is mixed into the pool, and `bits` (below 2^31) are credited (ioctl `RNDADDENTROPY`).
     Add {
         text: Text,
         bits: u32,
     },
-    /// Bits below 2^31 are credited (ioctl `RNDADDTOENTCNT`).
+    /// `bits` (below 2^31) are credited (ioctl `RNDADDTOENTCNT`).
     Credit {
         bits: u32,
     },
-    /// The credited bits are read (ioctl `RNDGETENTCNT`).
+    /// The number of credited bits is read (ioctl `RNDGETENTCNT`).
     Bits,
     /// An interrupt on the caller's CPU: the cycle counter, and the instruction pointer with the interrupt's number
     /// (`add_interrupt_randomness`).
@@ -167,7 +167,7 @@ pub enum Word {
 }
 
 impl Event {
-    /// The word of the event's line.
+    /// The word that the event's line begins with in a script.
     pub fn word(&self) -> Word
         ensures { result ≡ event_word self.now }
     {

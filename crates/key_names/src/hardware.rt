@@ -34,7 +34,7 @@ impl HardwareWords {
         Ok(HardwareWords { bytes })
     }
 
-    /// The bytes.
+    /// The 32 bytes.
     pub fn bytes(&self) -> [u8; 32]
         ensures { result ≡ self.now }
     {

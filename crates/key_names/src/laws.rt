@@ -75,7 +75,8 @@ pub fn first_fail_is_unique()
     ensures { FirstFailIsUnique }
 {}
 
-/// In a history of a transcript's book, the visits of one lane are that lane's list, in the list's order.
+/// Let a history be all visits of a transcript's book, sorted by stamp, and at equal stamps by caller. Then its visits
+/// of one lane are that lane's list, in the list's order.
 pub fn history_keeps_lanes()
     ensures { HistoryKeepsLanes }
 {}
@@ -104,7 +105,7 @@ pub fn text_is_script_or_faulty()
     ensures { TextIsScriptOrFaulty }
 {}
 
-/// A caller's order has the steps of its ancestors up to its fork, and then its own steps.
+/// A caller's order has the steps of its ancestors, up to the visit that forks it, and then its own steps.
 #[tactic(auto, using(crate::proofs::History::CallerOrders::order_is_start_and_own))]
 pub fn order_is_start_and_own()
     ensures { OrderIsStartAndOwn }

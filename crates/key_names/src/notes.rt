@@ -1,4 +1,4 @@
-//! Notes: entries of the pool's list whose bytes stay with the caller.
+//! Notes: entries of the pool's list that only refer to their bytes, which the caller keeps.
 
 /// A note: an entry of the pool's list that refers to its bytes. The caller hands the note over after a visit of the
 /// pool. `specs/Lanes/PoolNotes` defines the entry of each note.
@@ -8,7 +8,7 @@ pub enum PoolNote<'a> {
         text: &'a [u8],
         bits: u32,
     },
-    /// A sample of a device: a word, low byte first, and a text, with no bits (`add_device_randomness`).
+    /// A sample of a device: a word, low byte first, and then a text. It credits no bits (`add_device_randomness`).
     Device {
         word: u64,
         text: &'a [u8],

@@ -1,5 +1,5 @@
--- A caller's order is its start and then its own steps. A look depends on the earlier steps only through the greatest
--- generation seen in them.
+-- A caller's order is the steps of its ancestors (its start) and then its own steps. Whether a look is allowed depends
+-- on the earlier steps only through the greatest generation seen in them.
 use Rattle.std.proofs.Common.{◌≡◌, ◌⊎◌, inl, inr, ℕ, zero, suc, ◌<◌, List, [], ◌∷◌, ◌++◌, length, refl, sym, subst, ap, ◌∙◌, arith, length-append}
 use Rattle.std.specs.List.{fold}
 use Rattle.std.proofs.lemmas.List.Sums.{fold-append}
@@ -13,7 +13,7 @@ use Rattle.key_names.specs.Callers.History.{ancestors_steps, inherited_steps, or
 use Rattle.key_names.specs.Callers.History.{seen, seen_after, LooksConform}
 use Rattle.key_names.specs.Callers.CallerOrders.{start_of, OrderIsStartAndOwn, StartIsAFront, LooksFrom, LooksAreCounted, LooksInParts}
 
--- Lists that grow at the end
+-- A list of lists that grows at the end
 
 pub list_front : {X : Type 0} (lists : List (List X)) (x : List X) (c : ℕ) → c < length lists →
     list_at (lists ++ x ∷ []) c ≡ list_at lists c
@@ -32,7 +32,7 @@ long_ancestors callers (suc n) =
     let x : List Step = start_of callers n in
     omega (arith, length-append (ancestors_steps callers n) (x ∷ []))
 
--- Starts
+-- The steps with which a caller's order starts (`start_of`)
 
 pub below : (c n : ℕ) → c < suc n → (c < n) ⊎ (c ≡ n)
 below c n low = dite (ℕ_discrete c n) (λ e. inr e) (λ ne. inl (omega arith))
@@ -67,7 +67,7 @@ start_is_a_front callers c parent is low =
     ∙ ap (λ (start : List Step). start ++ calls_steps parent.fork.before ++ through_visit parent.fork.line.steps)
     (start_at callers c parent.caller low)
 
--- Looks
+-- Looks are checked with the greatest generation seen, in place of all earlier steps
 
 looks_to_number : (reseeds : ℕ) (before effects : List Effect) → LooksConform reseeds before effects →
     LooksFrom reseeds (seen before) effects

@@ -26,7 +26,7 @@ use Rattle.key_names.proofs.History.SortedVisits.{one_if, Rising, Sorted, count,
 abbrev stamp_of : Happening → ℕ
 stamp_of h = h.stamp
 
--- the elements of a list that pass a test
+-- the visits of a list that pass a test `p`
 module _ (p : Happening → Bool) where
   count_filter : (k : ℕ) (hs : List Happening) →
       count stamp_of k (filter p hs) ≡ count_by (λ h. p h && (h.stamp == k)) hs
@@ -55,7 +55,7 @@ module _ (p : Happening → Bool) where
       go true rest = (all_filter (λ y. h.stamp ≤ y.stamp) hs sorted.0, rest)
       go false rest = rest
 
-  -- an element that passes the test is in the filtered list
+  -- if the visit `h` passes the test, it is in the filtered list `hs`
   abbrev Left : List Happening → Happening → Type 0
   Left hs h = p h ≡ true → IsIn h (filter p hs)
 
@@ -84,7 +84,7 @@ module _ (p : Happening → Bool) where
       go true is rest = (all.0 is, rest)
       go false is rest = rest
 
--- a list sorted by `comes_before` has sorted stamps
+-- if `hs` is sorted by `comes_before`, no stamp in `hs` is above a later one
 sorted_stamps : (hs : List Happening) → IsSortedBy comes_before hs → Sorted stamp_of hs
 sorted_stamps [] sorted = tt
 sorted_stamps (h ∷ []) sorted = (tt, tt)
@@ -108,7 +108,7 @@ sorted_stamps (h ∷ next ∷ hs) sorted =
         go true less = cc
         go false less = ltb-false a.stamp b.stamp less
 
--- whether a visit is one of this lane
+-- whether the visit `h` is one of `lane`
 abbrev in_lane : LaneId → Happening → Bool
 in_lane lane h = is_same_lane h.lane lane
 
@@ -120,7 +120,7 @@ filter_lane lane other false is i [] = refl
 filter_lane lane other true is i (v ∷ visits) = rw (is, filter_lane lane other true is (suc i) visits) refl
 filter_lane lane other false is i (v ∷ visits) = rw is (filter_lane lane other false is (suc i) visits)
 
--- if the lane is none of the CPUs from c on, no visit of these CPUs is in the lane
+-- if `lane` is none of the CPUs from c on, no visit of these CPUs is in `lane`
 filter_others : (lane : LaneId) (c : ℕ) (cpus : List (List (Visit CpuEntry))) →
     ((d : ℕ) → c ≤ d → is_same_lane (CpuLane d) lane ≡ false) → filter (in_lane lane) (visits_of_cpus c cpus) ≡ []
 filter_others lane c [] other = refl
@@ -185,7 +185,8 @@ lane_of_all book lane =
           filter_lane (CpuLane c) BaseLane false refl 0 book.base,
         ) (subst P p (filter_cpu 0 c book.cpus))
 
--- if both places have a visit, the first visit's stamp is below the second's
+-- given the stamps and makers of the visits at two places: if both places have a visit, the first stamp is below the
+-- second
 abbrev Below : Option (ℕ × Who) → Option (ℕ × Who) → Type 0
 Below None there = ⊤
 Below (Some here) None = ⊤

@@ -21,13 +21,13 @@ pub each_append : {X : Type 0} (P : X → Type 0) (xs ys : List X) → AllByRecu
 each_append P [] ys all more = more
 each_append P (x ∷ xs) ys all more = (all.0, each_append P xs ys all.1 more)
 
--- if `P` holds for each element, and `P` implies `Q`, then `Q` holds for each element
+-- if `P` holds for each element of `xs`, and `P` implies `Q`, then `Q` holds for each element of `xs`
 pub each_weaker : {X : Type 0} (P Q : X → Type 0) (xs : List X) → ((x : X) → P x → Q x) → AllByRecursion P xs →
     AllByRecursion Q xs
 each_weaker P Q [] weaker all = tt
 each_weaker P Q (x ∷ xs) weaker all = (weaker x all.0, each_weaker P Q xs weaker all.1)
 
--- if a fact holds for each element of two joined lists, it holds for each element of either list
+-- if `P` holds for each element of `xs ++ ys`, it holds for each element of `xs` and for each of `ys`
 pub each_parts : {X : Type 0} (P : X → Type 0) (xs ys : List X) → AllByRecursion P (xs ++ ys) →
     AllByRecursion P xs × AllByRecursion P ys
 each_parts P [] ys all = (tt, all)
@@ -40,7 +40,7 @@ each_left P xs ys all = (each_parts P xs ys all).0
 pub each_right : {X : Type 0} (P : X → Type 0) (xs ys : List X) → AllByRecursion P (xs ++ ys) → AllByRecursion P ys
 each_right P xs ys all = (each_parts P xs ys all).1
 
--- if `P` and `Q` each hold for all elements, then both together hold for each element
+-- if `P` holds for each element of `xs`, and `Q` does too, then both hold together for each element of `xs`
 pub each_both : {X : Type 0} (P Q : X → Type 0) (xs : List X) → AllByRecursion P xs → AllByRecursion Q xs →
     AllByRecursion (λ x. P x × Q x) xs
 each_both P Q [] all all' = tt

@@ -6,7 +6,7 @@ use Rattle.std.specs.List.{fold}
 use Rattle.key_names.specs.Lanes.LawfulList.{LawfulFrom}
 
 module _ {S E : Type 0} (May : S → E → Type 0) (step : S → E → S) where
-  -- a lawful list with one more entry that may come is lawful
+  -- if `xs` is lawful, and `e` may come after it, then `xs` with `e` appended is lawful
   pub lawful_more : (s : S) (xs : List E) (e : E) → LawfulFrom May step s xs → May (fold step s xs) e →
       LawfulFrom May step s (xs ++ e ∷ [])
   lawful_more s [] e lawful may = (may, tt)
@@ -18,21 +18,21 @@ module _ {S E : Type 0} (May : S → E → Type 0) (step : S → E → S) where
   lawful_append s [] ys lawful more = more
   lawful_append s (x ∷ xs) ys lawful more = (lawful.0, lawful_append (step s x) xs ys lawful.1 more)
 
-  -- each entry of a lawful list was allowed in the state before it
+  -- if `xs` is lawful and its entry `i` is `e`, then `e` may come in the state before it
   pub may_at : (s : S) (xs : List E) (i : ℕ) (e : E) → LawfulFrom May step s xs → slice_get xs i ≡ Some e →
       May (fold step s (take i xs)) e
   may_at s [] i e lawful is = cc
   may_at s (x ∷ xs) zero e lawful is = let same : x ≡ e = cc in subst (May s) same lawful.0
   may_at s (x ∷ xs) (suc i) e lawful is = may_at (step s x) xs i e lawful.1 is
 
-  -- the front of a lawful list is lawful
+  -- if `xs` is lawful, then its first `i` entries are a lawful list
   pub lawful_take : (s : S) (xs : List E) (i : ℕ) → LawfulFrom May step s xs → LawfulFrom May step s (take i xs)
   lawful_take s [] zero lawful = tt
   lawful_take s [] (suc i) lawful = tt
   lawful_take s (x ∷ xs) zero lawful = tt
   lawful_take s (x ∷ xs) (suc i) lawful = (lawful.0, lawful_take (step s x) xs i lawful.1)
 
-  -- if `f` and `g` agree on each entry that may come, then both give the same fold of a lawful list
+  -- if `f` and `g` agree on each entry that may come, then folding a lawful list by `f` and by `g` gives the same value
   pub fold_same : {V : Type 0} (f g : V → E → V) → ((s : S) (e : E) (v : V) → May s e → f v e ≡ g v e) →
       (s : S) (v : V) (xs : List E) →
       LawfulFrom May step s xs → fold f v xs ≡ fold g v xs
@@ -57,7 +57,7 @@ front_stays (x ∷ xs) more (suc i) e is =
       whole = ap (λ ys. x ∷ ys) m.whole;
     }
 
--- if the entry at place `i` names `b`, it still does after the list grows
+-- if entry `i` of `xs` names `b`, then entry `i` of `xs ++ more` names `b` too
 pub named_stays : {A B : Type 0} (of : A → Option B) (xs more : List A) (i : ℕ) (b : B) →
     option_and_then of (slice_get xs i) ≡ Some b →
     option_and_then of (slice_get (xs ++ more) i) ≡ Some b

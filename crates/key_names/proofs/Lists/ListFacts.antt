@@ -23,7 +23,7 @@ list_is [] c xs is = cc
 list_is (ys ∷ xss) zero xs is = cc
 list_is (ys ∷ xss) (suc c) xs is = list_is xss c xs is
 
--- past the last list, `list_at` gives the empty list
+-- if `xss` has no list with the number `c`, then `list_at xss c` is the empty list
 pub list_beyond : {X : Type 0} (xss : List (List X)) (c : ℕ) → length xss ≤ c → list_at xss c ≡ []
 list_beyond [] c le = refl
 list_beyond (xs ∷ xss) zero le = absurd (omega arith)

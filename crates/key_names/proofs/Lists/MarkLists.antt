@@ -16,7 +16,7 @@ pub count_more : (p : ℕ) (m : Mark) (ms : List Mark) →
     count_by (at_place p) (m ∷ ms) ≡ cond (m.place == p) 1 0 + count_by (at_place p) ms
 count_more p m ms = sum_by-cons (λ n. cond (at_place p n) 1 0) m ms
 
--- if marks are in order from place `i` on, no mark has a place below `i`
+-- if the marks `ms` are in order from place `i` on, none of them has a place `p` below `i`
 none_below : (i p : ℕ) (ms : List Mark) → InOrder i ms → p < i → count_by (at_place p) ms ≡ 0
 none_below i p [] order below = refl
 none_below i p (m ∷ ms) order below =
@@ -86,7 +86,8 @@ in_order_conform ms order = record {
   rise = rise_from 0 ms order;
 }
 
--- marks in order stay in order if a mark is added at the end, with the next place and a stamp above all others
+-- if `ms` is in order from place `i` on, it stays so when the mark `m` is appended, with the next place and a stamp
+-- above all others
 pub in_order_more : (i : ℕ) (ms : List Mark) (m : Mark) → InOrder i ms → AllByRecursion (λ n. n.stamp < m.stamp) ms →
     m.place ≡ i + length ms → InOrder i (ms ++ m ∷ [])
 in_order_more i [] m order below at = (omega arith, tt, tt)

@@ -14,7 +14,8 @@ use Rattle.key_names.specs.Callers.Effects.{Effect, PoolVisit, CpuVisit, looked,
 use Rattle.key_names.specs.Callers.Effects.{effect_or, effect_at, effect_of, pool_visit, base_visit, cpu_visit}
 
 module _ (lists : Lists) where
-  -- if the effect of a mark is a visit of a CPU or of the pool, it is the visit at the mark's place
+  -- `s` is the visit at `place` of `lane`: `lane` is a CPU, whose list has the entry of `s` there; below, the same for
+  -- the pool
   pub record CpuAt (lane : LaneId) (place : ℕ) (s : CpuVisit) : Type 0 where
     pub lane_is : lane ≡ CpuLane s.cpu
     pub place_is : place ≡ s.place
@@ -95,7 +96,7 @@ module _ (lists : Lists) where
       go None is = absurd (cc is)
       go (Some e) is = absurd (cc is)
 
-  -- the step is a mark at the place of this visit of a CPU
+  -- `step` is a mark, and its place is that of `s`, a visit of a CPU
   pub record CpuStep (step : Step) (s : CpuVisit) : Type 0 where
     pub mark : Mark
     pub is : step ≡ Marked mark

@@ -34,7 +34,8 @@ module _ (t : List (List SeenLine)) (book : Book) (visits : VisitsAre book (all_
   abbrev lists : Lists
   lists = lists_of book
 
-  -- if the book has the visit `v` at a place, the book's lists have the entry of `v` at that place
+  -- if the book has the visit `v` at `place` of CPU `c`, the CPU's list has the entry of `v` there; below, the same for
+  -- the pool
   pub cpu_entry_at : (c place : ℕ) (v : Visit CpuEntry) → slice_get (visits_of book c) place ≡ Some v →
       slice_get (cpu_list lists c) place ≡ Some v.entry
   cpu_entry_at c place v at =
@@ -44,7 +45,7 @@ module _ (t : List (List SeenLine)) (book : Book) (visits : VisitsAre book (all_
       slice_get lists.pool place ≡ Some v.entry
   pool_entry_at place v at = entry_at book.pool place v at
 
-  -- the effect is one of the effects of this maker's line
+  -- `effect` is one of the effects of the line of `who`
   pub record InLine (who : Who) (effect : Effect) : Type 0 where
     pub line : SeenLine
     pub among : Among line t
@@ -69,10 +70,10 @@ module _ (t : List (List SeenLine)) (book : Book) (visits : VisitsAre book (all_
       each_in (λ b. stamped_at book b.mark.lane b.mark.place ≡ Some (b.mark.stamp, b.who)) by (all_marks t) visits.conform
       there
 
-  -- ---- from visits to lines
+  -- ---- each visit is an effect of the line of its event
 
   module _ (places : (lane : LaneId) → PlacesConform (lane_marks lane (all_marks t))) where
-    -- the maker of the visit at a place, and the line that has the visit's mark
+    -- the stamp and the maker of the visit at `place` of `lane`, and the line that has the visit's mark
     record MadeAt (lane : LaneId) (place : ℕ) : Type 0 where
       stamp : ℕ
       who : Who
@@ -118,7 +119,7 @@ module _ (t : List (List SeenLine)) (book : Book) (visits : VisitsAre book (all_
         subst (λ d. InLine v.who d) effect
         (subst (λ w. InLine w (effect_at lists PoolLane place)) (who_is book.pool place m.stamp m.who v m.at at) m.within)
 
-  -- ---- from lines to visits
+  -- ---- each visit among the effects of a line was made by the line's event
 
   pub record After {E : Type 0} (list : List (Visit E)) (place : ℕ) (entry : E) (line : SeenLine) : Type 0 where
     pub visit : Visit E

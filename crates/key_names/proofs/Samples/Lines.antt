@@ -49,7 +49,7 @@ into_flat f x y (z ∷ xs) (inl same) there =
     in_front y (f z) (flat_map f xs) (subst (λ l. IsIn y (f l)) (sym same) there)
 into_flat f x y (z ∷ xs) (inr rest) there = in_back y (f z) (flat_map f xs) (into_flat f x y xs rest there)
 
--- ---- steps
+-- ---- the effects and the marks of a line's steps
 
 pub effect_in : (lists : Lists) (step : Step) (steps : List Step) → IsIn step steps →
     IsIn (effect_of lists step) (effects_of lists steps)
@@ -94,13 +94,13 @@ mark_in caller event i mark (Marked m ∷ steps) (inl same) =
 mark_in caller event i mark (Marked m ∷ steps) (inr rest) =
     let more = mark_in caller event (suc i) mark steps rest in (more.0, inr more.1, more.2)
 
--- ---- lines
+-- ---- the lines of a transcript
 
--- a line of some caller
+-- the line is one of some caller's lines in the transcript `t`
 abbrev pub Among : SeenLine → List (List SeenLine) → Type 0
 Among line t = (lines : List SeenLine) × IsIn lines t × IsIn line lines
 
--- the line of some caller to which a mark belongs
+-- the line of the transcript `t` that has the mark `by`
 pub record LineOf (t : List (List SeenLine)) (by : MarkBy) : Type 0 where
   pub line : SeenLine
   pub among : Among line t
@@ -144,7 +144,7 @@ mark_of t line mark (lines, lines_in, line_in) here =
       event_is = f.event_is;
     }
 
--- each line of a caller has the caller's number, and no two of its lines have the same event
+-- each line of caller c has the number c, and no two lines of the caller have the same event number
 
 number_from : (c n : ℕ) (events : List Event) (lines : List SeenLine) (line : SeenLine) → LinesFit c n events lines →
     IsIn line lines → (line.caller ≡ c) × (n ≤ line.event)
@@ -184,7 +184,7 @@ same_line c n (event ∷ events) (l ∷ lines) a b fit (inr x) (inl y) same =
 same_line c n (event ∷ events) (l ∷ lines) a b fit (inr x) (inr y) same =
     same_line c (suc n) events lines a b fit.1 x y same
 
--- a caller has a line for each event, and a last line
+-- if LinesFit holds, a caller has one more line than it has events: the last line is that of its end
 pub fits_long : (c n : ℕ) (events : List Event) (lines : List SeenLine) → LinesFit c n events lines →
     length lines ≡ length events + 1
 fits_long c n [] [] fit = absurd fit

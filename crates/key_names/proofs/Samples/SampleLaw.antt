@@ -19,7 +19,7 @@ use Rattle.key_names.proofs.History.SortedVisits.{IsIn}
 use Rattle.key_names.proofs.Samples.Lines.{each_in, Among, Apart}
 use Rattle.key_names.proofs.Samples.LineVisits.{InLine, After, cpu_in_line, pool_in_line, cpu_after, pool_after}
 
--- facts about an entry that exclude each other
+-- an entry cannot be quiet (EntryIsQuiet) and a dump, nor quiet and make a dump due, nor be a dump and make one due
 
 pub quiet_dump : (f : FastPool) (e : CpuEntry) → EntryIsQuiet f e → IsDump e → ⊥
 quiet_dump f (Dump now) quiet dump = quiet
@@ -36,7 +36,8 @@ due_dump f _ due dump = dump
 abbrev Crosses : List Effect → Type 0
 Crosses rest = AllByRecursion IsCrossing rest
 
--- if a line with correct samples has a dump or makes one due, then Dumps holds for the line's effects
+-- let the samples of a line be correct. If the line has a dump or makes one due, then Dumps holds for the line's
+-- effects
 module _ (fast : ℕ → ℕ → FastPool) (effects : List Effect) where
   must_dump : SamplesConform fast effects → (s : CpuVisit) → IsIn (at_cpu s) effects → IsDump s.entry →
       Dumps fast Crosses effects
@@ -99,7 +100,7 @@ module _ (fast : ℕ → ℕ → FastPool) (effects : List Effect) where
     mix_in : IsIn (at_pool d.mix) effects
     mix_in = subst (IsIn (at_pool d.mix)) (sym d.effects_are) (inr (inr (inl refl)))
 
--- the bytes of a mix, and no bytes for another entry
+-- the bytes that an entry of the pool mixes, if it is a `Mix`, and otherwise no bytes; below, the bits that it credits
 abbrev text_or : PoolEntry → List ℕ
 text_or (Mix text bits) = text
 text_or _ = []
@@ -198,14 +199,14 @@ module _ (t : List (List SeenLine)) (book : Book) (fast : ℕ → ℕ → FastPo
       own_line line a.visit.who who (at_cpu (cpu_visit lists c k a.visit.entry)) among event by a.event
       (cpu_line c k a.visit a.is)
 
-  -- ---- from lines to the book
+  -- ---- if the samples of each line are correct, LawfulSamples holds for the book
 
   module _ (samples : AllByRecursion (AllByRecursion Conforms) t) where
     conforms : (line : SeenLine) → Among line t → Conforms line
     conforms line (lines, lines_in, line_in) =
         each_in Conforms line lines (each_in (AllByRecursion Conforms) lines t samples lines_in) line_in
 
-    -- the line of a dump
+    -- the line of the event `who`, whose dump is at place `k` of CPU `c`
     record OfDump (c k : ℕ) (who : Who) : Type 0 where
       line : SeenLine
       among : Among line t
@@ -271,7 +272,7 @@ module _ (t : List (List SeenLine)) (book : Book) (fast : ℕ → ℕ → FastPo
         let same : o.dumps.dump ≡ v = is_the_dump fast (effects o.line) o.dumps v here b.dumps in
         sym o.at ∙ ap (λ (v : CpuVisit). v.place) same
 
-    -- the line and the book have the same fast pool at the dump
+    -- at the dump of `who`, the fast pool that `fast` gives is the fast pool that the book gives
     dumped : (c k : ℕ) (who : Who) (o : OfDump c k who) → DumpAt (visits_of book c) k who →
         fast o.dumps.dump.cpu o.dumps.dump.place ≡ fast_before (visits_of book c) k
     dumped c k who o a = (λ i. fast (o.on i) (o.at i)) ∙ sym (fast_is c k a.visit a.is)

@@ -12,7 +12,7 @@ use Rattle.key_names.specs.Texts.ScriptGrammar.{FewActs, ForksAbove, InRange, Is
 use Rattle.key_names.proofs.Lists.Each.{each_append, each_left, each_right}
 use Rattle.key_names.specs.Texts.ScriptFaults.{Draft, blocks_of, has_orphan, is_bad_fork, is_fork_from, is_past_limits, with_block, with_event}
 
--- ---- sums over events
+-- ---- sums over the events of a script
 
 -- `f` counts over a list of events: it is 0 for the empty list, and for two joined lists the sum of their counts
 pub record Adds (f : List Event → ℕ) : Type 0 where
@@ -42,12 +42,12 @@ total_split f adds done later events es =
       adds.more events es,
     )
 
--- one more empty block adds nothing to the total
+-- one more empty block adds nothing to the total of `f` over all blocks
 pub total_block : (f : List Event → ℕ) → Adds f → (blocks : List (List Event)) → sum_by f (blocks ++ [] ∷ []) ≡
     sum_by f blocks
 total_block f adds blocks = omega (arith, sum_by-append f blocks ([] ∷ []), sum_by-cons f [] [], adds.none)
 
--- ---- forks
+-- ---- each block forks only numbers above its own
 
 pub above_append : (c : ℕ) (xs ys : List (List Event)) → ForksAbove c xs → ForksAbove (c + length xs) ys →
     ForksAbove c (xs ++ ys)
@@ -65,7 +65,7 @@ pub above_right : (c : ℕ) (xs ys : List (List Event)) → ForksAbove c (xs ++ 
 above_right c [] ys all = subst (λ k. ForksAbove k ys) (omega arith) all
 above_right c (x ∷ xs) ys all = subst (λ k. ForksAbove k ys) (omega arith) (above_right (suc c) xs ys all.1)
 
--- ---- acts
+-- ---- the acts that wait for a vread
 
 pub few_push : (w : ℕ) (events : List Event) (e : Event) → FewActs w events →
     acts_after (fold acts_after w events) e ≤ 8 → FewActs w (events ++ e ∷ [])
@@ -92,7 +92,7 @@ pub record Fine (d : Draft) : Type 0 where
   pub events : sum_by length (blocks_of d) ≤ 65536
   pub reads : sum_by (sum_by bytes_read) (blocks_of d) ≤ 16777216
 
--- the event forks caller `c`, whose number is new and above the forking caller's
+-- the event `e` forks caller `c`, whose number was not forked before and is above the forking caller's
 pub record ForksNew (d : Draft) (e : Event) (c : ℕ) : Type 0 where
   pub one : count_by (is_fork_of c) (e ∷ []) ≡ 1
   pub new : times_forked (blocks_of d) c ≡ 0
@@ -118,7 +118,8 @@ fork_above d (Fork child) good =
     omega arith
 fork_above d e good = tt
 
--- if event `e` is added, the number of times that `c` is forked grows by the forks of `c` in `e`
+-- if event `e` is added to the draft `d`, the number of times that `c` is forked grows by the number of times that `e`
+-- forks `c`
 pub times_with : (d : Draft) (e : Event) (c : ℕ)
     → times_forked (blocks_of (with_event d e)) c ≡ times_forked (blocks_of d) c + count_by (is_fork_of c) (e ∷ [])
 times_with d e c = total_split (count_by (is_fork_of c)) (forks_of c) d.done [] d.events (e ∷ []) ∙ omega arith
@@ -220,7 +221,7 @@ block_fine d fine few forked =
       reads = rw (total_block (sum_by bytes_read) reads (blocks_of d)) fine.reads;
     }
 
--- ---- orphans
+-- ---- numbers that are forked but have no block
 
 not_of : (n c : ℕ) (e : Event) → n ≤ c → is_fork_from n e ≡ false → is_fork_of c e ≡ false
 not_of n c (Fork child) high e = let low = leb-false _ _ e in ne_eqb child c (λ same. omega arith)
@@ -275,7 +276,7 @@ orphanless n (events ∷ callers) none =
     (none_from n events (λ c high. omega (arith, none c high, sum_by-cons (count_by (is_fork_of c)) events callers)))
     (orphanless n callers (λ c high. omega (arith, none c high, sum_by-cons (count_by (is_fork_of c)) events callers)))
 
--- ---- whole scripts
+-- ---- a draft without fault becomes a whole script
 
 -- all conditions of a well-formed script except the length of its text
 pub record Whole (version cpus : ℕ) (blocks : List (List Event)) : Type 0 where
@@ -323,7 +324,7 @@ end_whole d fine whole =
       reads = fine.reads;
     }
 
--- ---- a draft on the way to a whole script
+-- ---- on the way to a whole script, the next event, block or end has no fault
 
 none_low : (k c : ℕ) (events : List Event) → c ≤ k → AllByRecursion (IsForkAbove k) events →
     count_by (is_fork_of c) events ≡ 0

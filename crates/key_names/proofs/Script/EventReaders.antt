@@ -24,7 +24,7 @@ pub record IsEvent (version cpus : ℕ) (by : Word) (fields : List (List ℕ)) (
   pub spelt : fields ≡ arguments event
   pub range : InRange version cpus event
 
--- ---- input
+-- ---- reading an `input` event
 
 four_are : (fields : List (List ℕ)) (all : (List ℕ × List ℕ) × (List ℕ × List ℕ)) → four_fields fields ≡ Ok all
     → fields ≡ all.0.0 ∷ all.0.1 ∷ all.1.0 ∷ all.1.1 ∷ []
@@ -66,7 +66,7 @@ input_again word kind code value range =
       (numbers 256 (omega arith)).again value range.3,
     ) refl
 
--- ---- acts
+-- ---- reading an act inside a vread
 
 abbrev IsAct : ℕ → ℕ → List (List ℕ) → Event → Type 0
 IsAct version cpus fields e = IsEvent version cpus words.Inside fields e
@@ -132,7 +132,7 @@ inside_again point (VreadAct len) range =
     rw (points.again point tt, (numbers 1048577 (omega arith)).again len (omega (arith, range))) refl
 inside_again point ReseedAct range = rw (points.again point tt) refl
 
--- ---- all words
+-- ---- reading the event of any word
 
 since_takes : (first version : ℕ) (r : Result Event FaultKind) (e : Event) → since first version r ≡ Ok e →
     (first ≤ version) × (r ≡ Ok e)
@@ -142,8 +142,8 @@ since_takes first version r e is =
       | inr not ↦ let none = rw not at is in absurd cc
     ]
 
--- if IsEvent holds for all that `read` takes in the versions from `first` on, then it holds for all that `read` limited
--- to these versions (`since`) takes in any version
+-- let IsEvent hold for all events that `read` takes in the versions from `first` on. If `since` limits `read` to these
+-- versions, IsEvent holds for all events that the limited reader takes in any version
 later_takes : (first version cpus : ℕ) (word : Word) (read : List (List ℕ) → Result Event FaultKind)
     → (first ≤ version → Takes read (IsEvent version cpus word)) →
     Takes (λ fields. since first version (read fields)) (IsEvent version cpus word)

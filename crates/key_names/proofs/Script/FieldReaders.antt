@@ -15,7 +15,7 @@ use Rattle.key_names.proofs.Points.{point_again, number_small, numbered}
 use Rattle.key_names.proofs.Script.HexFields.{bytes_again, bytes_takes}
 use Rattle.key_names.proofs.Script.Numbers.{number_again, number_takes}
 
--- if two steps in a row give a value, then the first gave some value, and the second made the result from it
+-- if `r >>= f` gives the value `y`, then `r` gives some value `x`, and `f x` gives `y`
 pub step_ok : {A B E : Type 0} (r : Result A E) (f : A → Result B E) (y : B) → (r >>= f) ≡ Ok y →
     (x : A) × (r ≡ Ok x) × (f x ≡ Ok y)
 step_ok (Ok x) f y e = (x, refl, e)
@@ -31,7 +31,7 @@ pub found : {A E : Type 0} (o : Option A) (k : E) (x : A) → ok_or o k ≡ Ok x
 found {A} {E} (Some y) k x e = ap (λ (z : A). Some z) (same_ok {A = A} {E = E} y x e)
 found None k x e = absurd cc
 
--- `read` takes exactly the fields that `spell` gives for values that fit
+-- `read` takes exactly the fields that `spell` gives for values for which `Fits` holds
 pub record Spells {A : Type 0} (read : List ℕ → Result A FaultKind) (spell : A → List ℕ) (Fits : A → Type 0)
     : Type 0 where
   pub takes : (field : List ℕ) (a : A) → read field ≡ Ok a → (field ≡ spell a) × Fits a
@@ -95,7 +95,7 @@ hardware_fields = record {
   again = λ bs fits. rw (byte_fields.again bs fits.0, eq-eqb (length bs) 32 fits.1) refl;
 }
 
--- ---- the fields after a word
+-- ---- reading the fields after a line's word
 
 pub none_is : (fields none : List (List ℕ)) → no_field fields ≡ Ok none → fields ≡ []
 none_is [] none e = refl
@@ -113,7 +113,7 @@ two_are [] both e = absurd cc
 two_are (a ∷ []) both e = absurd cc
 two_are (a ∷ b ∷ c ∷ fields) both e = absurd cc
 
--- for all fields that the reader takes, P holds for the fields and for the event that is read from them
+-- if `read` takes some fields as an event, then P holds for these fields and this event
 abbrev pub Takes : (List (List ℕ) → Result Event FaultKind) → (List (List ℕ) → Event → Type 0) → Type 0
 Takes read P = (fields : List (List ℕ)) (event : Event) → read fields ≡ Ok event → P fields event
 

@@ -12,7 +12,7 @@ use Rattle.key_names.specs.Texts.ScriptFaults.{bytes_of}
 use Rattle.key_names.specs.Texts.Spelling.{AllLower, hex, is_lower_digit}
 use Rattle.key_names.proofs.Script.HexFields.{bytes_again, bytes_none, spells_letter, spells_number}
 
--- a lower-case digit is in the table of digits, at the place of its value
+-- if `c` is a lower-case hexadecimal digit, it is digit `d` of the table, for some `d` below 16
 place_of : (c : ℕ) → is_lower_digit c ≡ true → (d : ℕ) × (d < 16) × (slice_index lower_digits d ≡ c)
 place_of c lower =
     elim (or_cases (leb 48 c && leb c 57) (leb 97 c && leb c 102) lower) [
@@ -59,7 +59,7 @@ lower_place n lower = elim (cases_lt n 16) [
       let zero_lower : is_lower_digit 0 ≡ true = rw none at lower in absurd (cc zero_lower))
 ]
 
--- if a list of numbers has a lower-case spelling, it is a list of bytes
+-- if the hexadecimal spelling of a list of numbers has only lower-case digits, the numbers are bytes
 spelt_bytes : (bytes : List ℕ) → AllLower (encode_lower bytes) → IsBytes bytes
 unfolding encode_with
 spelt_bytes [] lower = λ i. omega arith
@@ -68,7 +68,7 @@ spelt_bytes (b ∷ bytes) lower =
     let rest : IsBytes bytes = spelt_bytes bytes lower.1.1 in
     λ i. elim i as (λ i. slice_index (b ∷ bytes) i < 256) [ zero ↦ omega arith | suc i ↦ rest i ]
 
--- lower-case digits, two for each byte, decode to the bytes that they spell
+-- if `field` consists of 2 n lower-case digits, it decodes to the bytes that it spells
 pub decoded : (n : ℕ) (field : List ℕ) → length field ≡ 2 * n → AllLower field →
     (bytes : List ℕ) × (decode_sized field n ≡ Ok bytes) × (encode_lower bytes ≡ field)
 decoded n field twice lower =
@@ -101,7 +101,7 @@ is_spelt field true dash some even is =
 is_spelt field false dash some even is =
     ap is_some (sym (bytes_none field dash (λ found n lower e. absurd (false≢true (is.1 lower)))))
 
--- bytes that are written over a list of their own length replace the whole list
+-- if `out` is written over the front of `items`, and both have length n, then the first n bytes are `out`
 pub written : (out items : List ℕ) (n : ℕ) → length out ≡ length items → n ≡ length items →
     take n (out ++ drop (length out) items) ≡ out
 written out items n same all =

@@ -11,7 +11,7 @@ use Rattle.hex.proofs.HexLemmas.{decode_of-encode_lower, decode_of-even, decode_
 use Rattle.key_names.specs.Texts.Spelling.{hex, AllLower, is_lower_digit}
 use Rattle.key_names.specs.Texts.ScriptFaults.{bytes_of, spelt_bytes}
 
--- ---- one digit
+-- ---- one hexadecimal digit
 
 spells : (d : ℕ) → d < 16 → is_lower_digit (slice_index lower_digits d) ≡ true
 spells d small = agree_below_at (λ k. is_lower_digit (slice_index lower_digits k)) (λ k. true) 16 d refl small
@@ -24,7 +24,7 @@ pub spells_letter : (d : ℕ) → d < 6 → slice_index lower_digits (10 + d) �
 spells_letter d small = eqb-true _ _ (agree_below_at (λ k. slice_index lower_digits (10 + k) == 97 + k) (λ k. true) 6 d
     refl small)
 
--- the value of a lower-case digit spells the digit
+-- if `v` is the value of the lower-case digit `c`, then digit `v` of the table is `c`
 lower_value : (c v : ℕ) → is_lower_digit c ≡ true → hex_digit_value c ≡ Some v → (v < 16) ×
     (slice_index lower_digits v ≡ c)
 lower_value c v lower e =
@@ -42,7 +42,7 @@ lower_value c v lower e =
           (omega arith, rw d at (spells_letter (v - 10) (omega arith)) ∙ omega arith)
     ]
 
--- ---- pairs of digits
+-- ---- pairs of hexadecimal digits
 
 step_ok : {A B : Type 0} (r : Result A FromHexError) (f : A → Result B FromHexError) (y : B)
     → (r >>= f) ≡ Ok y → (x : A) × (r ≡ Ok x) × (f x ≡ Ok y)
@@ -53,7 +53,7 @@ digit_read : (c i : ℕ) (o : Option ℕ) (v : ℕ) → digit_or_error c i o ≡
 digit_read c i (Some w) v h = ap Some (ap (λ (r : Result ℕ FromHexError). result_unwrap_or r 0) h)
 digit_read c i None v h = absurd cc
 
--- bytes decoded from lower-case digits spell those digits
+-- if the lower-case digits `text` decode to `bytes`, then `bytes` are spelt as `text`
 encode_decoded : (i : ℕ) (text bytes : List ℕ) → AllLower text → decode_pairs i text ≡ Ok bytes →
     encode_lower bytes ≡ text
 unfolding decode_pairs encode_with
@@ -83,14 +83,14 @@ lower_encoded (b ∷ bytes) small =
     let byte = small 0 in
     (spells (b / 16) (omega arith), (spells (b % 16) (omega arith), lower_encoded bytes (λ k. small (suc k))))
 
--- ---- a field
+-- ---- a field that spells bytes
 
 dash_only : (b : ℕ) (bytes : List ℕ) → bytes_eq (encode_lower (b ∷ bytes)) (hex []) ≡ false
 dash_only b bytes = false_from_ne_true _ (λ e.
     let same = (bytes_eq-Decides (encode_lower (b ∷ bytes)) (hex [])).0 e in
     omega (arith, ap length same, length-encode_with lower_digits (b ∷ bytes)))
 
--- the spelling of bytes is read as these bytes
+-- the spelling of `bytes` is read as `bytes`
 pub bytes_again : (bytes : List ℕ) → IsBytes bytes → bytes_of (hex bytes) ≡ Some bytes
 bytes_again [] small = refl
 bytes_again (b ∷ bytes) small =
@@ -114,11 +114,11 @@ field_takes field bytes false is e =
     let spelt = spelt_takes field bytes (decode_of field) e in
     (spelt.1, (decode_of-ok field bytes spelt.0).3)
 
--- a field that is read as bytes is their spelling
+-- if `field` is read as `bytes`, then it is the spelling of `bytes`
 pub bytes_takes : (field bytes : List ℕ) → bytes_of field ≡ Some bytes → (field ≡ hex bytes) × IsBytes bytes
 bytes_takes field bytes e = field_takes field bytes (bytes_eq field (hex [])) refl e
 
--- lower-case digits that decode to bytes are read as these bytes
+-- if `field` consists of lower-case digits that decode to `bytes`, it is read as `bytes`
 pub bytes_found : (field bytes : List ℕ) → 0 < length field → AllLower field → decode_of field ≡ Ok bytes
     → bytes_of field ≡ Some bytes
 bytes_found field [] some lower e = absurd (omega (arith, (decode_of-ok field [] e).2))
@@ -143,7 +143,7 @@ none_else field dash not (Some (b ∷ bytes)) e =
     absurd (not (b ∷ bytes) long (rw (is.0) (lower_encoded (b ∷ bytes) is.1))
     (rw (is.0) (decode_of-encode_lower (b ∷ bytes) is.1)))
 
--- a field that is neither a dash nor lower-case digits that decode is not read
+-- if `field` is no dash, and does not consist of lower-case digits that decode to bytes, then it is not read as bytes
 pub bytes_none : (field : List ℕ) → bytes_eq field (hex []) ≡ false
     → ((bytes : List ℕ) → 0 < length field → AllLower field → decode_of field ≡ Ok bytes → ⊥) → bytes_of field ≡ None
 bytes_none field dash not = none_else field dash not (bytes_of field) refl

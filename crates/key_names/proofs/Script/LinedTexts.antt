@@ -74,7 +74,7 @@ graphic_word _ = refl
 pub clean_word : (word : Word) → Clean (word_text word)
 clean_word word = clean_by (word_text word) (graphic_word word)
 
--- ---- a line of fields
+-- ---- splitting a line into its fields
 
 not_space : (b : ℕ) → is_graphic b ≡ true → (b == 32) ≡ false
 not_space b g = let low = ltb-true _ _ (and_parts (ltb 32 b) (ltb b 127) g).0 in ne_eqb b 32 (λ e. omega arith)
@@ -98,7 +98,7 @@ parts_spaced field (next ∷ fields) clean others =
 pub spaced_parts : (line : List ℕ) → spaced (parts 32 line) ≡ line
 spaced_parts line = join_with_byte-slice_split 32 line
 
--- ---- printable lines
+-- ---- lines of printable characters
 
 abbrev pub Printable : List ℕ → Type 0
 Printable line = AllByRecursion (λ b. is_unprintable b ≡ false) line
@@ -135,7 +135,7 @@ feedless : (line : List ℕ) → Printable line → AllByRecursion (λ b. (b == 
 feedless [] fine = tt
 feedless (b ∷ line) fine = (not_feed b fine.0, feedless line fine.1)
 
--- ---- a text of lines
+-- ---- splitting a text into its lines
 
 -- a text of printable lines is split into these lines, with nothing after the last
 pub parts_lined : (lines : List (List ℕ)) → AllByRecursion Printable lines → parts 10 (lined lines) ≡ lines ++ [] ∷ []

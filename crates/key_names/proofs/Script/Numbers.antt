@@ -35,12 +35,12 @@ IsNumber-decimal n small = record {
 pub value_of_decimal : (n : ℕ) → n < 2 ^ 64 → digits_value 10 (decimal n) ≡ n
 value_of_decimal n small = digits_value-decimal own n small
 
--- if the choice gives a value, the test passed, and the value is `x`
+-- if the choice between `Some x` and `None` by `b` gives the value `y`, then `b` is true, and `y` is `x`
 met : {A : Type 0} (b : Bool) (x y : A) → cond b (Some x) None ≡ Some y → (b ≡ true) × (x ≡ y)
 met true x y e = (refl, cc)
 met false x y e = absurd cc
 
--- a field that is read as a number is the number's spelling
+-- if `field` is read as the number n, then n is below the limit, and `field` is the spelling of n
 pub number_takes : (limit n : ℕ) (field : List ℕ) → number_below limit field ≡ Some n → (n < limit) ×
     (field ≡ decimal n)
 number_takes limit n field e =
@@ -55,7 +55,7 @@ number_good limit field good below wide =
     let same = decimal-digits_value own field good.digits good.some good.lead (omega arith) in
     rw (lt-ltb _ _ below, (bytes_eq-Decides (decimal (digits_value 10 field)) field).1 same) refl
 
--- the spelling of a number is read as this number
+-- if n is below the limit, the spelling of n is read as n
 pub number_again : (limit n : ℕ) → n < limit → limit ≤ 2 ^ 64 → number_below limit (decimal n) ≡ Some n
 number_again limit n below wide =
     let is = value_of_decimal n (omega arith) in
@@ -69,7 +69,7 @@ none_else limit field wide not (Some n) e =
     let value : digits_value 10 field ≡ n = rw is.1 (value_of_decimal n (omega (arith, is.0))) in
     absurd (not (rw is.1 (IsNumber-decimal n (omega (arith, is.0)))) (omega (arith, is.0)))
 
--- a field that is not a number below the limit is not read
+-- if `field` is not the spelling of a number below the limit, it is not read as a number
 pub number_none : (limit : ℕ) (field : List ℕ) → limit ≤ 2 ^ 64 → (IsNumber field → digits_value 10 field < limit → ⊥)
     → number_below limit field ≡ None
 number_none limit field wide not = none_else limit field wide not (number_below limit field) refl

@@ -4,7 +4,7 @@ use Rattle.std.specs.List.{onto_first}
 use Rattle.std.proofs.lemmas.List.Splits.{slice_split_at, slice_split_none}
 use Rattle.key_names.specs.Texts.ScriptFaults.{parts}
 
--- the list of parts has a first element
+-- the list `lists` has a first element
 pub record HasFirst (lists : List (List ℕ)) : Type 0 where
   pub first : List ℕ
   pub others : List (List ℕ)
@@ -22,7 +22,7 @@ pub first_part : (byte : ℕ) (text : List ℕ) → HasFirst (parts byte text)
 first_part byte [] = record { first = []; others = []; is = refl }
 first_part byte (b ∷ text) = first_of (b == byte) b (parts byte text)
 
--- no byte of the text has this value
+-- no byte of the text has the value `byte`
 abbrev pub Lacks : ℕ → List ℕ → Type 0
 Lacks byte text = All (λ b. (b == byte) ≡ false) text
 

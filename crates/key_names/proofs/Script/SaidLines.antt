@@ -22,7 +22,7 @@ use Rattle.key_names.proofs.Script.EventReaders.{event_again, event_takes}
 use Rattle.key_names.proofs.Script.FieldReaders.{found, none_is, numbers, one_is, same_ok, step_ok}
 use Rattle.key_names.proofs.Script.LinedTexts.{Clean, Printable, clean_by, clean_decimal, parts_spaced, printable_spaced, spaced_parts}
 
--- ---- words
+-- ---- reading a word
 
 word_takes : (field : List ℕ) (w : Word) → word_of field ≡ Some w → field ≡ word_text w
 word_takes field w e = sym ((bytes_eq-Decides (word_text w) field).0
@@ -36,7 +36,7 @@ not_caller : (w : Word) → bytes_eq (word_text w) (codes "caller") ≡ false
 not_caller words.End = refl
 not_caller _ = refl
 
--- ---- the content
+-- ---- reading the content of a line
 
 abbrev pub said_fields : Said → List (List ℕ)
 said_fields (SaysEvent event) = event_fields event
@@ -87,7 +87,7 @@ by_first version cpus (first ∷ fields) what few is =
           (by_word version cpus fields step.0 what few step.2)
     ]
 
--- the line with this content
+-- the line with the content `what`
 abbrev pub said_line : Said → List ℕ
 said_line what = spaced (said_fields what)
 

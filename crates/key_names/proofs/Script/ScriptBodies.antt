@@ -17,7 +17,7 @@ use Rattle.key_names.proofs.Script.LinedTexts.{Printable, none_unprintable}
 use Rattle.key_names.proofs.Script.Parts.{HasFirst}
 use Rattle.key_names.proofs.Script.SaidLines.{printable_said, said_again, said_line, said_takes}
 
--- ---- one line
+-- ---- reading one line
 
 pub at_ok : {A : Type 0} (n : ℕ) (r : Result A FaultKind) (x : A) → at_line n r ≡ Ok x → r ≡ Ok x
 at_ok {A} n (Ok y) x e = ap (λ (z : A). Ok z) (same_ok {E = ScriptFault} y x e)
@@ -49,7 +49,7 @@ nothing_takes n ([] ∷ next ∷ more) x e = absurd (never (line_of ([] ∷ next
 nothing_takes n ((b ∷ tail) ∷ next ∷ more) x e =
     absurd (never (line_of ((b ∷ tail) ∷ next ∷ more)) UnknownWord x (at_ok n _ x e))
 
--- ---- the lines that are left
+-- ---- the lines of a script that follow a draft
 
 -- the lines after a draft with `c` finished blocks: those of `es`, the further events of the current block, those of
 -- the blocks `later`, and the line `end`
@@ -63,7 +63,7 @@ callers_with d es later = d.done ++ (d.events ++ es) ∷ later
 abbrev pub script_with : Draft → List Event → List (List Event) → Script
 script_with d es later = record { version = d.version; cpus = d.cpus; callers = callers_with d es later }
 
--- the lines are the rest of the script after the draft
+-- `lines` are the lines of the script `s` that follow the draft `d`
 pub record Continues (d : Draft) (lines : List (List ℕ)) (s : Script) : Type 0 where
   pub es : List Event
   pub later : List (List Event)
@@ -116,8 +116,8 @@ end_after d next is =
       | inr whole ↦ (whole, same_ok {E = FaultKind} Ends next (rw whole at is))
     ]
 
--- if a draft without a fault and the lines `more` are read as the script s, then `more` is the rest of s after the
--- draft
+-- if reading the lines `more` after a draft without a fault gives the script s, then `more` are the lines of s after
+-- the draft
 abbrev After : List (List ℕ) → Script → Type 0
 After more s = (d : Draft) (n : ℕ) → Fine d → script_from d n more ≡ Ok s → Continues d more s
 
@@ -208,7 +208,8 @@ first_after : (lines : List (List ℕ)) (line : List ℕ) (more : List (List ℕ
 first_after [] line more = record { first = line; others = more; is = refl }
 first_after (l ∷ lines) line more = record { first = l; others = lines ++ line ∷ more; is = refl }
 
--- if the content `what` may come after the draft, reading its line leads to the next draft, or to the end
+-- if the content `what` may come after the draft `d`, reading its line leads to the next draft, or to the end of the
+-- script
 step_again : (d : Draft) (n : ℕ) (what : Said) (more : List (List ℕ)) (next : Next) → d.cpus ≤ 256 →
     SaidInRange d.version d.cpus what
     → HasFirst more → after d what ≡ Ok next
@@ -226,14 +227,14 @@ step_again d n what more next few range some is =
 event_next : (d : Draft) (e : Event) → EventFits d e → after d (SaysEvent e) ≡ Ok (GoesOn (with_event d e))
 event_next d e fits = rw (fits.fork, fits.limits) refl
 
--- the lines of these events
+-- the lines of the events `es`
 abbrev event_lines : List Event → List (List ℕ)
 event_lines es = map (λ e. said_line (SaysEvent e)) es
 
 abbrev with_events : Draft → List Event → Draft
 with_events d es = record d { events = d.events ++ es }
 
--- reading the events of a block one after another leads to the draft with these events
+-- reading the lines of the events `es` after the draft `d` leads to the draft with these events added
 events_again : (d : Draft) (n : ℕ) (es : List Event) (later : List (List Event)) (line : List ℕ)
     (more : List (List ℕ)) (s : Script)
     → d.cpus ≤ 256 → Whole d.version d.cpus (callers_with d es later)
@@ -249,7 +250,7 @@ events_again d n (e ∷ es) later line more s few whole ends =
     (first_after (event_lines es) line more) (event_next d e fits)
     ∙ events_again (with_event d e) (n + 1) es later line more s few (rw same whole) (λ m. rw same (ends m))
 
--- the lines after the events of a block
+-- the lines that follow the events of block `c`
 abbrev tail_lines : ℕ → List (List Event) → List (List ℕ)
 tail_lines c [] = codes "end" ∷ [] ∷ []
 tail_lines c (es ∷ later) = said_line (SaysCaller (suc c)) ∷ rest_lines (suc c) es later

@@ -113,7 +113,7 @@ start_fine version cpus versions few = record {
   reads = omega arith;
 }
 
--- ---- all lines
+-- ---- reading all lines of a text
 
 first_is : (lines : List (List ℕ)) (line : List ℕ) → line_of lines ≡ Ok line → lines ≡ line ∷ following lines
 first_is [] line e = absurd cc
@@ -229,7 +229,7 @@ printable_script s whole =
       ),
     )
 
--- ---- the whole text
+-- ---- reading a whole text
 
 whole_of : (s : Script) → WellFormed s → Whole s.version s.cpus s.callers
 whole_of s fits = record {
@@ -258,7 +258,7 @@ well_formed s whole short = record {
   text = short;
 }
 
--- a text that is read as a script is the script's text
+-- if `text` is read as the script `s`, then it is the text of `s`
 pub script_takes : (text : List ℕ) (s : Script) → script_of text ≡ Ok s → IsScript s text
 unfolding script_of
 script_takes text s e =
@@ -279,7 +279,7 @@ whole_again s (es ∷ later) e whole =
     (record s { callers = callers })) e
     (lines_again s.version s.cpus es later (subst (Whole s.version s.cpus) (sym e) whole))
 
--- a script's text is read as the script
+-- the text of the script `s` is read as `s`
 pub script_again : (text : List ℕ) (s : Script) → IsScript s text → script_of text ≡ Ok s
 unfolding script_of
 script_again text s is =

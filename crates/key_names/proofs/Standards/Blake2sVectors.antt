@@ -10,7 +10,7 @@ pub blake2s_abc : blake2s None (97 ∷ 98 ∷ 99 ∷ []) ≡ 80 ∷ 140 ∷ 94 �
 unfolding blake2s compressed folded start_vector round mixed_at mixed u32_at
 blake2s_abc = refl
 
--- the hash of a message of three blocks, the first of which is the key's
+-- the hash of a text under a key. The key and the text make three blocks
 pub blake2s_keyed : blake2s (Some (0 ∷ 1 ∷ 2 ∷ 3 ∷ 4 ∷ 5 ∷ 6 ∷ 7 ∷ 8 ∷ 9 ∷ 10 ∷ 11 ∷ 12 ∷ 13 ∷ 14 ∷ 15 ∷ 16 ∷ 17 ∷
     18 ∷ 19 ∷ 20 ∷ 21 ∷ 22 ∷ 23 ∷ 24 ∷ 25 ∷ 26 ∷ 27 ∷ 28 ∷ 29 ∷ 30 ∷ 31 ∷
     [])) (0 ∷ 1 ∷ 2 ∷ 3 ∷ 4 ∷ 5 ∷ 6 ∷ 7 ∷ 8 ∷ 9 ∷ 10 ∷ 11 ∷ 12 ∷ 13 ∷ 14 ∷ 15 ∷ 16 ∷ 17 ∷ 18 ∷ 19 ∷ 20 ∷ 21 ∷ 22 ∷ 23

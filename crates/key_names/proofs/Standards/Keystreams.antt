@@ -1,4 +1,4 @@
--- Lemmas that cut and join pieces of a keystream. A published block is computed.
+-- Lemmas that cut and join pieces of a keystream (`len` bytes from byte `from` on). A published block is computed.
 use Rattle.std.proofs.Common.{zero, suc, ◌+◌, ◌-◌, ◌<◌, ◌≤◌, ◌++◌, ap, sym, ◌∙◌, arith, ◌≡◌, ℕ, List, [], ◌∷◌, refl, replicate, length, take, drop, append-nil}
 use Rattle.std.specs.Prelude.{slice_range, slice_index}
 use Rattle.std.proofs.lemmas.List.FromFn.{length-map-range_with_len, get_or-map-range_with_len, take-map-range_with_len}
@@ -7,7 +7,7 @@ use Rattle.key_names.specs.Kernel.Keystream.{keystream, keystream_byte}
 use Rattle.rand_core.specs.Steps.{u32_at}
 use Rattle.rand_chacha.specs.Block.{block_word, double_rounds, column_round, diagonal_round, quarter_round}
 
--- block 1 of the zero key
+-- block 1 of the keystream of a key of zeros
 pub keystream_zero : keystream (replicate 32 0) 64 64 ≡ 159 ∷ 7 ∷ 231 ∷ 190 ∷ 85 ∷ 81 ∷ 56 ∷ 122 ∷ 152 ∷ 186 ∷ 151 ∷
     124 ∷ 115 ∷ 45 ∷ 8 ∷ 13 ∷ 203 ∷ 15 ∷ 41 ∷ 160 ∷ 72 ∷ 227 ∷ 101 ∷ 105 ∷ 18 ∷ 198 ∷ 83 ∷ 62 ∷ 50 ∷ 238 ∷ 122 ∷
     237 ∷ 41 ∷ 183 ∷ 33 ∷ 118 ∷ 156 ∷ 230 ∷ 78 ∷ 67 ∷ 213 ∷ 113 ∷ 51 ∷ 176 ∷ 116 ∷ 216 ∷ 57 ∷ 213 ∷ 49 ∷ 237 ∷ 31 ∷
@@ -26,21 +26,21 @@ keystream-add key from (suc a) b =
     ap (keystream key from) p ∙ ap (λ ys. keystream_byte key from ∷ ys)
     (keystream-add key (from + 1) a b ∙ ap (λ f. keystream key (from + 1) a ++ keystream key f b) q)
 
--- a piece of len bytes has len bytes
+-- `keystream key from len` has `len` bytes
 pub length-keystream : (key : List ℕ) (from len : ℕ) → length (keystream key from len) ≡ len
 length-keystream key from len = length-map-range_with_len (λ j. keystream_byte key j) from len
 
--- byte i of a piece is the byte at that position of the keystream
+-- byte i of the piece from byte `from` on is byte `from + i` of the keystream
 pub slice_index-keystream : (key : List ℕ) (from len i : ℕ) → i < len → slice_index (keystream key from len) i ≡
     keystream_byte key (from + i)
 slice_index-keystream key from len i below =
     get_or-map-range_with_len (λ j. keystream_byte key j) from len i (from + i) 0 below refl
 
--- the front of a piece is a piece from the same position
+-- the first n bytes of a piece are the piece of n bytes that begins at the same byte
 pub take-keystream : (key : List ℕ) (from len n : ℕ) → n ≤ len → take n (keystream key from len) ≡ keystream key from n
 take-keystream key from len n within = take-map-range_with_len (λ j. keystream_byte key j) from len n within
 
--- the rest of a piece is a piece from a later position
+-- a piece without its first n bytes is the piece that begins n bytes later
 pub drop-keystream : (key : List ℕ) (from len n : ℕ) → n ≤ len → drop n (keystream key from len) ≡
     keystream key (from + n) (len - n)
 drop-keystream key from len n within =

@@ -8,7 +8,8 @@ use Rattle.key_names.specs.declared.point.Point.{Point}
 use Rattle.key_names.specs.Callers.Calls.{Call, alone, vread_call, unbound, ending, BoundAct, has_vread, calls_from}
 use Rattle.key_names.specs.Transcripts.SeenLine.{SeenLine}
 
--- a fact about the waiting acts, the events and lines that are left, and the calls that all of these make
+-- a fact about the waiting acts, the events and lines that are left, and the calls that these acts, events and lines
+-- make
 abbrev pub OfCalls : Type 1
 OfCalls = List BoundAct → List Event → List SeenLine → List Call → Type 0
 

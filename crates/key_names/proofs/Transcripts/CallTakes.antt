@@ -30,7 +30,7 @@ module _ (lane : LaneId) (p : ℕ) where
   acts_append [] ys = omega arith
   acts_append (x ∷ xs) ys = omega (arith, acts_append xs ys)
 
-  -- the number of marks of this place in the lines of a call
+  -- how many marks of place `p` the lines of a call have
   abbrev pub call_marks : Call → ℕ
   call_marks (alone event line) = mark_takes lane p line.steps
   call_marks (vread_call n flags line acts) = mark_takes lane p line.steps + acts_marks acts
@@ -41,7 +41,7 @@ module _ (lane : LaneId) (p : ℕ) where
   calls_marks [] = 0
   calls_marks (call ∷ calls) = call_marks call + calls_marks calls
 
-  -- the calls of a caller have at most as many of these marks as the caller's lines and the waiting acts together
+  -- the calls of a caller have at most as many marks of place `p` as the caller's lines and the waiting acts together
   abbrev MarksWithin : List BoundAct → List Event → List SeenLine → List Call → Type 0
   MarksWithin waiting es lines calls = calls_marks calls ≤ acts_marks waiting + lines_takes lane p lines
 
@@ -102,7 +102,7 @@ module _ (c p : ℕ) where
       let e : effect_takes c p (effects_of lists line.steps) ≤ mark_takes (CpuLane c) p line.steps =
       effects_within c p lists line.steps in omega arith
 
-  -- a call takes the read at most as often as its own line has the read's mark
+  -- a call takes the read as a key at most as often as its own line has the read's mark
   pub call_within : (lists : Lists) (call : Call) (m : CallMeaning) →
       EachOfCall (λ line m. effects_of lists line.steps ≡ m.effects) call m → Means call m →
       takes c p m.entries ≤ mark_takes (CpuLane c) p (own_line call).steps
@@ -123,7 +123,7 @@ module _ (c p : ℕ) where
       means.entries refl
   call_within lists (ending line) m effects means = none_taken m.entries [] (mark_takes (CpuLane c) p line.steps) means.entries refl
 
-  -- a call takes the read at most as often as all its lines have the read's mark
+  -- a call takes the read as a key at most as often as all its lines have the read's mark
   pub call_within_all : (lists : Lists) (call : Call) (m : CallMeaning) →
       EachOfCall (λ line m. effects_of lists line.steps ≡ m.effects) call m → Means call m →
       takes c p m.entries ≤ call_marks (CpuLane c) p call
@@ -146,7 +146,7 @@ module _ (c p : ℕ) where
   all_takes [] = 0
   all_takes (ms ∷ mss) = caller_takes ms + all_takes mss
 
-  -- all callers together take the read at most as often as all lines have the read's mark
+  -- all callers together take the read as a key at most as often as all lines have the read's mark
   pub callers_within : (lists : Lists) (settings : ℕ → Setting) (i : ℕ) (callers : List (List Call))
       (mss : List (List CallMeaning)) →
       EachCaller (λ i calls ms. CallerMeans lists (settings i) calls ms) i callers mss →

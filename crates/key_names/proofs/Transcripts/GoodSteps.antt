@@ -10,7 +10,7 @@ use Rattle.key_names.specs.Callers.VreadSteps.{answer_after, Shows, NeverFall, l
 use Rattle.key_names.proofs.Transcripts.KeyVisits.{AllThere, there_append, sys_answered}
 use Rattle.key_names.proofs.Vgetrandom.StatesReplay.{KeyIs, Good}
 
--- each look of a line found at least this generation
+-- each of the looks found at least the generation `least`
 abbrev pub AllKnown : ℕ → List ℕ → Type 0
 AllKnown least [] = Unit {0}
 AllKnown least (g ∷ looks) = (least ≤ g) × AllKnown least looks
@@ -39,7 +39,7 @@ look_some : (look g : ℕ) → g ≡ published_by look → 1 ≤ g → 1 ≤ loo
 look_some zero g is some = let p : g ≡ 0 = is in absurd (omega arith)
 look_some (suc look) g is some = omega arith
 
--- if each look of a line found the core ready, then the steps that the line shows are good
+-- if each look of a line found the core ready, then the host's steps that the line shows are good
 good_shown : (lists : Lists) (set : Setting) (steps : List HostStep) (effects : List Effect) → AllThere lists effects →
     AllKnown 1 (looks_of effects) → Shows set steps effects → Good lists steps
 good_shown lists set [] effects there known shows = tt

@@ -61,7 +61,7 @@ there_at lists PoolLane place = there_at_pool lists place (slice_get lists.pool 
 there_at lists BaseLane place = there_at_base lists place (slice_get lists.base place)
 there_at lists (CpuLane c) place = there_at_cpu lists c place (slice_get (cpu_list lists c) place) refl
 
--- the visits among the effects of steps are in the lists
+-- IsThere holds for each effect of the steps: each visit of a CPU is in that CPU's list
 pub all_there : (lists : Lists) (steps : List Step) → AllThere lists (effects_of lists steps)
 all_there lists [] = tt
 all_there lists (Look g ∷ steps) = (tt, all_there lists steps)
@@ -87,7 +87,7 @@ answers_interrupted effects is = go (found_unready effects) refl
     go true at = rw (at, is) refl
     go false at = rw (at, is) refl
 
--- the answer is a key of 32 bytes that a CPU's visit handed over
+-- the answer of a system call is a key of 32 bytes that a CPU's visit handed over
 abbrev WasRead : Lists → SystemAnswer → Type 0
 WasRead lists answer = IsKeyRead (cpu_list lists) answer × KeyIs lists answer
 

@@ -48,7 +48,8 @@ of_lane Q lane (by ∷ marks) all = go (is_same_lane by.mark.lane lane) refl (of
         (subst P (same_lane by.mark.lane lane is) all.0, rest)
     go false is rest = rest
 
--- if Q holds for the place of each mark of a lane, then Q holds for each place below the number of these marks
+-- if Q holds for the place of each mark of a lane, and PlacesConform holds for these marks, then Q holds for each place
+-- below their number
 module _ (Q : ℕ → Type 0) where
   at_some : (place : ℕ) (ms : List Mark) → AllByRecursion (λ m. Q m.place) ms →
       1 ≤ count_by (λ mark. mark.place == place) ms → Q place
@@ -81,7 +82,7 @@ pub every_place : (Q : LaneId → ℕ → Type 0) (lane : LaneId) (marks : List 
 every_place Q lane marks conform all i lt =
     each_place (λ i. Q lane i) (lane_marks lane marks) conform (of_lane (λ l m. Q l m.place) lane marks all) i lt
 
--- the number of visits in a lane
+-- the number of visits of a lane in the book
 abbrev pub lane_length : Book → LaneId → ℕ
 lane_length book PoolLane = length book.pool
 lane_length book BaseLane = length book.base
@@ -99,7 +100,7 @@ within_lane book PoolLane place there at = within book.pool place there at
 within_lane book BaseLane place there at = within book.base place there at
 within_lane book (CpuLane c) place there at = within (list_at book.cpus c) place there at
 
--- the number of marks in a lane
+-- the number of marks of a lane among `marks`
 abbrev pub mark_count : LaneId → List MarkBy → ℕ
 mark_count lane marks = length (lane_marks lane marks)
 
@@ -129,7 +130,7 @@ skips c (x ∷ xs) by marks other =
     let rest : cpu_counts (suc c) xs (by ∷ marks) ≡ cpu_counts (suc c) xs marks =
     skips (suc c) xs by marks (λ d le. other d (omega arith)) in omega arith
 
--- a mark of one of the counted CPUs adds 1 to the count
+-- if the mark `by` is of one of the counted CPUs, it adds 1 to the count
 counts_once : {X : Type 0} (c d e : ℕ) (xss : List (List X)) (by : MarkBy) (marks : List MarkBy) → e ≡ c + d →
     by.mark.lane ≡ CpuLane e → 1 ≤ length (list_at xss d) → cpu_counts c xss (by ∷ marks) ≡ 1 + cpu_counts c xss marks
 counts_once c d e [] by marks at lane there = absurd (omega arith)
@@ -197,7 +198,7 @@ module _ (book : Book) where
           let z : cpu_counts 0 book.cpus (by ∷ marks) ≡ 1 + cpu_counts 0 book.cpus marks =
           counts_once 0 c c book.cpus by marks (omega arith) is (omega arith) in omega arith
 
--- if two sums are equal, and no part of the first is above the same part of the second, then the parts are equal
+-- if a ≤ x and b ≤ y, and a + b is x + y, then a is x, and b is y
 parts_equal : (a b x y : ℕ) → a ≤ x → b ≤ y → a + b ≡ x + y → (a ≡ x) × (b ≡ y)
 parts_equal a b x y le le' same = (omega arith, omega arith)
 

@@ -13,7 +13,7 @@ use Rattle.key_names.proofs.Lists.MarkLists.{at_place, count_more, Above, in_ord
 abbrev hit : Bool → ℕ
 hit b = cond b 1 0
 
--- a fact about all numbers of a range holds for each number in it
+-- if P holds for the n numbers from i on, it holds for each number p among them
 in_range : (P : ℕ → Type 0) (i n p : ℕ) → AllByRecursion P (range_with_len i n) → i ≤ p → p < i + n → P p
 in_range P i zero p all from low = absurd (omega arith)
 in_range P i (suc n) p all from low = go (i == p) refl (λ e. in_range P (i + 1) n p all.1 (omega (arith, e)) (omega arith))
@@ -55,7 +55,7 @@ module _ (i : ℕ) (m : Mark) (ms : List Mark) (s : ConformFrom i (m ∷ ms)) (s
   once_here : hit (m.place == i) + count_by (at_place i) ms ≡ 1
   once_here = sym (count_more i m ms) ∙ s.once i (omega arith) (omega arith)
 
-  -- if the first mark has place i, no later mark has a lower place
+  -- if the first mark `m` has place i, no later mark has a lower place than `m`
   following : m.place ≡ i → AllByRecursion (λ n. n.place < m.place → ⊥) ms
   following is = each_weaker (λ n. i ≤ n.place) (λ n. n.place < m.place → ⊥) ms (λ n le lt. omega arith) s.from.1
 

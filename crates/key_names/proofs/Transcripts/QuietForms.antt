@@ -17,7 +17,7 @@ use Rattle.key_names.specs.Kernel.FastPool.{FastPool}
 use Rattle.key_names.specs.Callers.Forms.{Rooted, BaseOnly, Cross, DrawForm, CpuReadForm, Looked, ReadForm, WaitedInVain, Waited, LookedForm, SysForm, CreditForm, PoolOnly, IntForm, ReseedForm, Form, EndForm}
 use Rattle.key_names.specs.Callers.LineSamples.{EntryIsQuiet, IsQuiet, SamplesConform}
 
--- an event that is not an interrupt
+-- the event is not an interrupt
 abbrev pub IsNoInterrupt : Event → Type 0
 IsNoInterrupt (Irq v1 v2) = ⊥
 IsNoInterrupt _ = ⊤
@@ -70,7 +70,7 @@ module _ (fast : ℕ → ℕ → FastPool) where
       (effects : List Effect) → Looked P effects → Quiet effects
   after_look P quiet effects f = are effects (looked f.0 ∷ f.1) f.2 (tt, quiet f.0 f.1 f.3)
 
-  -- if each side of a choice makes the effects quiet, then the choice makes them quiet
+  -- if A makes the effects quiet, and so does B, then so does the choice between A and B by `b`
   choice : (b : Bool) (A B : Type 0) (effects : List Effect) → (A → Quiet effects) → (B → Quiet effects) → MatchBool b A B →
       Quiet effects
   choice true A B effects x y h = x h
@@ -149,7 +149,7 @@ module _ (fast : ℕ → ℕ → FastPool) where
   pub end_quiet : (effects : List Effect) → EndForm effects → Quiet effects
   end_quiet effects f = base_only _ effects f
 
-  -- if an event is not an interrupt, its samples are correct
+  -- if an event is not an interrupt, SamplesConform holds for its effects
   pub form_samples : (set : Setting) (event : Event) (effects : List Effect) → IsNoInterrupt event → Form set event effects →
       SamplesConform fast effects
   form_samples set event effects other f = inl (quiet set event effects other f)

@@ -27,13 +27,13 @@ module _ (lane : LaneId) (p : ℕ) where
   abbrev pub lane_takes : LaneId → ℕ → ℕ
   lane_takes other place = if is_same_lane other lane then hit (place == p) else 0
 
-  -- how many of the steps are marks of this place
+  -- how many of the steps are marks of place `p`
   abbrev pub mark_takes : List Step → ℕ
   mark_takes [] = 0
   mark_takes (Look g ∷ steps) = mark_takes steps
   mark_takes (Marked mark ∷ steps) = lane_takes mark.lane mark.place + mark_takes steps
 
-  -- how many of the marks of one lane have this place
+  -- how many of the marks of one lane have place `p`
   abbrev place_count : List Mark → ℕ
   place_count marks = count_by (λ mark. mark.place == p) marks
 
@@ -123,7 +123,8 @@ module _ (c p : ℕ) where
       cpu None = omega arith
       cpu (Some e) = let same = cpu_takes d place in omega arith
 
-  -- the effects of steps contain the visit at this place at most as often as the steps contain the visit's mark
+  -- the effects of `steps` contain the visit at place `p` of CPU `c` at most as often as `steps` contain the visit's
+  -- mark
   pub effects_within : (lists : Lists) (steps : List Step) → effect_takes c p (effects_of lists steps) ≤ mark_takes (CpuLane c) p steps
   effects_within lists [] = omega arith
   effects_within lists (Look g ∷ steps) = effects_within lists steps
@@ -203,7 +204,7 @@ at_most_once q ms conform = elim (lt_or_le q (length ms)) [
         from_range (λ place. count_by (λ mark. mark.place == place) ms ≡ 1) 0 (length ms) conform.once i lt in
         sym (at_is_count i ms) ∙ sym (ap (λ j. count_by (λ mark. mark.place == j) ms) p) ∙ e
 
--- all lines together have at most one mark of a place
+-- if PlacesConform holds for the marks of `lane`, all lines together have at most one mark of place `p` of `lane`
 pub one_mark : (lane : LaneId) (p : ℕ) (t : List (List SeenLine)) → PlacesConform (lane_marks lane (all_marks t)) →
     total_takes lane p t ≤ 1
 one_mark lane p t conform =

@@ -34,8 +34,8 @@ module _ (c p : ℕ) where
   abbrev all_takes : List (List CallMeaning) → ℕ
   all_takes = calls.all_takes c p
 
-  -- the entries of one state take the read at most as often as all entries of the state's caller. The same is true of
-  -- the entries of two different states together
+  -- the entries of state k take the read as a key at most as often as all entries of the state's caller. The same is
+  -- true of the entries of two different states together
   one_state : (k : ℕ) (ms : List CallMeaning) → takes c p (entries_of_state k ms) ≤ caller_takes ms
   one_state k [] = omega arith
   one_state k (m ∷ ms) =
@@ -77,7 +77,7 @@ module _ (c p : ℕ) where
       (if m.before.current == k then m.entries else []) ≤ takes c p m.entries =
       not_both m.before.current j k m.entries ne in omega arith
 
-  -- if some entry takes the read, then `takes` is at least 1
+  -- if some entry of `es` takes the read as a key, then `takes` is at least 1
   pub any_entry : (es : List VEntry) → list_any (rekeys_place c p) es ≡ true → 1 ≤ takes c p es
   any_entry [] is = cc
   any_entry (Rekey cpu place ∷ es) is = elim (or_true (cpu == c && place == p) _ is) [
@@ -171,7 +171,7 @@ module _ (c p : ℕ) where
   abbrev some_read : ℕ → ℕ → Option (ℕ × ℕ)
   some_read cpu place = Some (cpu, place)
 
-  -- `is_here` is 1 for an entry that takes the read
+  -- `is_here` is 1 for an entry that takes the read at place `p` of CPU `c`
   here_is : (cpu place : ℕ) → some_read cpu place ≡ some_read c p → is_here c p cpu place ≡ 1
   here_is cpu place is =
       let a : (cpu == c) ≡ true = eq-eqb cpu c (ap (λ o. option_map_or (λ (x : ℕ × ℕ). x.0) o 0) is) in
@@ -218,7 +218,7 @@ module _ (c p : ℕ) where
       let rest : 2 ≤ takes c p es = counts_two es n m (λ x. ne (ap suc x)) is at in
       let more : takes c p es ≤ takes c p (e ∷ es) = more_takes e es in omega arith
 
-  -- if all callers together take the read at most once, then only one entry takes it
+  -- if all callers together take the read as a key at most once, then only one entry takes it
   pub one_entry : (mss : List (List CallMeaning)) → all_takes mss ≤ 1 → (h i j k n m : ℕ) →
       rekey_at (list_at (list_at (map state_lists mss) h) j) n ≡ Some (c, p) →
       rekey_at (list_at (list_at (map state_lists mss) i) k) m ≡ Some (c, p) →

@@ -45,7 +45,7 @@ module _ (lists : Lists) (caller k : ℕ) (below : k < 16) where
   abbrev Holds : Both → VgetrandomState → Type 0
   Holds = replay.Holds lists caller k
 
-  -- after a call, state k matches the replay of the state's entries
+  -- after the call with the meaning `m`, state k matches the replay `x` with the call's entries for state k added
   pub record Leaves (x : Both) (m : CallMeaning) : Type 0 where
     pub length_is : length m.after.states ≡ 16
     pub holds : Holds (after x (if m.before.current == k then m.entries else [])) (state_number k m.after)
@@ -123,7 +123,7 @@ module _ (lists : Lists) (caller k : ℕ) (below : k < 16) where
   not_true true h = cc
   not_true false h = refl
 
-  -- if the batch alone served a copy, the state after the copy matches the replay of the state's list
+  -- if state k matches the replay `x`, `Leaves` holds after a vread that a copy without a vgetrandom call served
   local_holds : (x : Both) (n : ℕ) (rest : List Effect) (m : CallMeaning) → 1 ≤ n → length m.before.states ≡ 16 →
       Holds x (state_number k m.before) → ByLocalCopy n rest m → Leaves x m
   local_holds x n rest m some len h by =
@@ -179,7 +179,7 @@ module _ (lists : Lists) (caller k : ℕ) (below : k < 16) where
       subst Q (sym (fold-append (replay.step lists caller k) x es (entries_of_state k (take j ms))))
       (calls_hold j (after x es) m.after calls ms leaves.length_is leaves.holds effects.1 mean.2)
 
-  -- the names and bytes with which the replay begins
+  -- the names and bytes of a state before its first entry, with which a replay begins
   abbrev pub start : Both
   start = record { named = state_start; bytes = state_bytes_start }
 

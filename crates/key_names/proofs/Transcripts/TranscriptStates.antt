@@ -24,7 +24,7 @@ use Rattle.key_names.proofs.Lists.Each.{each_append}
 use Rattle.key_names.proofs.Vgetrandom.KeyReads.{copy_names, call_names}
 use Rattle.key_names.proofs.Transcripts.KeyVisits.{AllThere, all_there, key_reads}
 
--- after `x` is set as element `i` of a list, element `i` is `x`
+-- if element `i` of `xs` is set to `x`, then element `i` is `x`
 pub set_here : {A : Type 0} (xs : List A) (i : ℕ) (x : A) → i < length xs → slice_get (slice_set xs i x) i ≡ Some x
 set_here [] i x lt = absurd (omega arith)
 set_here (y ∷ ys) zero x lt = refl
@@ -42,7 +42,7 @@ length_set [] i x = refl
 length_set (y ∷ ys) zero x = refl
 length_set (y ∷ ys) (suc i) x = ap suc (length_set ys i x)
 
--- the caller's state with this number
+-- the caller's vgetrandom state with the number k
 abbrev pub state_at : CallerState → ℕ → VgetrandomState
 state_at s k = unwrap_or (slice_get s.states k) wiped_state
 
@@ -50,8 +50,8 @@ module _ (lists : Lists) (caller k : ℕ) (below : k < 16) where
   abbrev Reads : List VEntry → Type 0
   Reads es = AllByRecursion (TakesRead (cpu_list lists)) es
 
-  -- after a call, state k is settled. If state k was the current one, the call's entries keep its list in order;
-  -- otherwise its list gets no entry
+  -- after a call, state k is settled (it matches its list, `Settled`). If state k was the current one, the call's
+  -- entries keep its list in order; otherwise its list gets no entry
   record Leaves (t : NamedState) (m : CallMeaning) : Type 0 where
     length_is : length m.after.states ≡ 16
     keeps : Keeps caller k (λ u. Settled u (state_at m.after k)) t

@@ -1,5 +1,5 @@
--- Answers and data do not change the calls, marks, orders and settings that lines make. A bare line has no answer and
--- no data.
+-- Answers and data do not change the calls, marks, orders and settings that lines make. A bare line is a line with the
+-- answer `Ok` and no data instead of its own.
 use Rattle.std.proofs.Common.{◌≡◌, ℕ, zero, suc, Bool, true, false, Option, Some, None, List, [], ◌∷◌, ◌++◌, length, map, refl, sym, ap, ◌∙◌}
 use Rattle.std.specs.Prelude.{◌==◌, take, drop, if◌then◌else◌}
 use Rattle.std.specs.List.{fold, flat_map}
@@ -29,7 +29,7 @@ bare_call (vread_call n flags line acts) = vread_call n flags (bare line) (map b
 bare_call (unbound bound) = unbound (bare_act bound)
 bare_call (ending line) = ending (bare line)
 
--- The calls of bare lines
+-- If lines are made bare, the calls that they make become bare, and do not change otherwise
 
 inside : (b : Bool) (bound : BoundAct) (calls later bare_calls bare_later : List Call) →
     bare_calls ≡ map bare_call calls → bare_later ≡ map bare_call later →
@@ -62,7 +62,7 @@ bare_all [] t = refl
 bare_all (es ∷ callers) [] = λ i. bare_calls [] es [] i ∷ bare_all callers [] i
 bare_all (es ∷ callers) (lines ∷ t) = λ i. bare_calls [] es lines i ∷ bare_all callers t i
 
--- The marks of bare lines
+-- A bare line has the same marks as the line
 
 lines_marks : (lines : List SeenLine) → flat_map line_marks (map bare lines) ≡ flat_map line_marks lines
 lines_marks [] = refl
@@ -72,7 +72,7 @@ pub bare_marks : (t : List (List SeenLine)) → all_marks (map (map bare) t) ≡
 bare_marks [] = refl
 bare_marks (lines ∷ t) = λ i. lines_marks lines i ++ bare_marks t i
 
--- The steps of bare calls
+-- A bare call has the same steps as the call
 
 bare_at_point : (acts : List BoundAct) (p : Point) → steps_at_point (map bare_act acts) p ≡ steps_at_point acts p
 bare_at_point [] p = refl
@@ -92,7 +92,7 @@ pub bare_calls_steps : (cs : List Call) → calls_steps (map bare_call cs) ≡ c
 bare_calls_steps [] = refl
 bare_calls_steps (c ∷ cs) = λ i. bare_steps c i ++ bare_calls_steps cs i
 
--- Forks among bare calls
+-- If calls are made bare, their forks and parents have bare calls and lines, and do not change otherwise
 
 abbrev bare_fork : ForkPoint → ForkPoint
 bare_fork fork = record { before = map bare_call fork.before; line = bare fork.line }
@@ -136,7 +136,7 @@ parents_alike c p (cs ∷ callers) =
     (λ i. parent_here p (forks_alike c cs i) (parents_alike c (suc p) callers i))
     ∙ here_bare p (fork_point c cs) (parent_from c (suc p) callers)
 
--- The orders of bare calls
+-- If the calls of callers are made bare, the callers' orders stay the same
 
 inherited_alike : (ancestors : List (List Step)) (o : Option Parent) →
     inherited_steps ancestors (bare_parent o) ≡ inherited_steps ancestors o
@@ -171,7 +171,7 @@ bare_orders callers =
     (ancestors_alike callers (length callers))
     ∙ orders_alike (ancestors_steps callers (length callers)) callers
 
--- The settings of bare calls
+-- If the calls of callers are made bare, the callers' settings stay the same
 
 one_setting : (set : Setting) (c : Call) → setting_after_call set (bare_call c) ≡ setting_after_call set c
 one_setting set (alone event line) = refl

@@ -41,7 +41,7 @@ both_ways true false e f g h = cc
 both_ways false true e f g h = cc
 both_ways false false e f g h = g h
 
--- Lines
+-- If lines differ only in answers and data, they fit the same script
 
 module _ (word : Word) (c n : ℕ) where
   line_is : (l k : SeenLine) → bare l ≡ bare k → LineIs c n word l → LineIs c n word k
@@ -78,7 +78,7 @@ has_lines c (es ∷ callers) (ls ∷ t) (ks ∷ u) e has = (
   has_lines (suc c) callers t u (tail (map bare ls) (map bare ks) (map (map bare) t) (map (map bare) u) e) has.1,
 )
 
--- Acts
+-- If the lines of acts differ only in answers and data, the same meanings are allowed for the acts
 
 wiped_bare : (acts : List BoundAct) (point : Point) → is_wiped (map bare_act acts) point ≡ is_wiped acts point
 wiped_bare [] point = refl
@@ -115,7 +115,7 @@ each_act P same (a ∷ acts) (b ∷ others) (m ∷ ms) e h = (
   each_act P same acts others ms (tail (bare_act a) (bare_act b) (map bare_act acts) (map bare_act others) e) h.1,
 )
 
--- Calls
+-- If the lines of calls differ only in answers and data, the same meanings are allowed for the calls
 
 module _ (n flags : ℕ) (acts others : List BoundAct) (e : map bare_act acts ≡ map bare_act others) (m : CallMeaning) where
   wiped_same : (point : Point) → is_wiped acts point ≡ is_wiped others point
@@ -228,7 +228,7 @@ module _ (P : SeenLine → LineMeaning → Type 0)
     each_line cs ds ms (tail (bare_call c) (bare_call d) (map bare_call cs) (map bare_call ds) e) h.1,
   )
 
--- Transcripts
+-- If transcripts differ only in answers and data, their steps make the same book
 
 module _ (lists : Lists) where
   effects_same : (l k : SeenLine) (m : LineMeaning) → bare l ≡ bare k → effects_of lists l.steps ≡ m.effects →

@@ -11,9 +11,9 @@ use Rattle.key_names.specs.Callers.Effects.{Effect, PoolVisit, BaseVisit, CpuVis
 use Rattle.key_names.specs.Callers.VreadSteps.{looks_of}
 use Rattle.key_names.specs.Callers.Forms.{Looked}
 
--- an event that has visits in both books
+-- the books `book` and `book'` both have visits of one event, which is the event of `who`
 module _ (book book' : Book) (who : Who) where
-  -- the visits at one mark, one in each book
+  -- `v` and `v'` are the visits at one mark, `v` in `book` and `v'` in `book'`
   pub record SamePool (v v' : PoolVisit) : Type 0 where
     pub place : v.place ≡ v'.place
     pub equal : (lists_of book).pool ≡ (lists_of book').pool → v ≡ v'
@@ -35,7 +35,7 @@ module _ (book book' : Book) (who : Who) where
     pub dumps : IsDump v.entry → DumpAt (visits_of book v.cpu) v.place who
     pub dumps' : IsDump v'.entry → DumpAt (visits_of book' v'.cpu) v'.place who
 
-  -- the two effects are those that one step has in the two books
+  -- one step has the two effects, the first in `book` and the second in `book'`
   abbrev pub SameStep : Effect → Effect → Type 0
   SameStep (looked g) (looked g') = g ≡ g'
   SameStep (at_pool v) (at_pool v') = SamePool v v'

@@ -19,8 +19,8 @@ use Rattle.key_names.proofs.Transcripts.KeyVisits.{answers_done}
 use Rattle.key_names.proofs.Unique.TwoBooks.{SameCpu, SameSteps, AllInferred, same_at, inferred_at, same_looks}
 use Rattle.key_names.proofs.Unique.UniqueForms.{inferred_system}
 
--- if two choices have equal tests, and C follows both from their first sides and from their second sides, then C
--- follows from the choices
+-- let `b` and `b'` be equal. If C follows from A and A', and also from B and B', then C follows from the two choices by
+-- `b` and `b'`
 pub match_both : (A B A' B' C : Type 0) (b b' : Bool) → b ≡ b' → ((b ≡ true) → A → A' → C) → ((b ≡ false) → B → B' →
     C) →
     MatchBool b A B → MatchBool b' A' B' → C
@@ -29,7 +29,7 @@ match_both A B A' B' C false false p f g x y = g refl x y
 match_both A B A' B' C true false p f g x y = cc
 match_both A B A' B' C false true p f g x y = cc
 
--- each look found the core ready
+-- each look among the effects found the core ready
 abbrev pub AllReady : List Effect → Type 0
 AllReady ds = AllByRecursion (λ g. 1 ≤ g) (looks_of ds)
 
@@ -43,7 +43,8 @@ not_zero g some = go (g == 0) refl
     go true is = let zero_is : g ≡ 0 = eqb-true g 0 is in absurd (omega arith)
     go false is = is
 
--- `PlainKey` is a system call that reads a key from a CPU without a refill; `RefilledKey` is one with a refill
+-- the effects `call` are those of a system call that reads a key from a CPU: `PlainKey` without a refill, `RefilledKey`
+-- with one
 record PlainKey (call : List Effect) : Type 0 where
   g : ℕ
   look : ℕ
@@ -85,7 +86,8 @@ key_read set call more form ready =
 abbrev visit_of : CpuVisit → Option CpuPlace
 visit_of cpu = Some (record { cpu = cpu.cpu; place = cpu.place })
 
--- the system call was not interrupted, and its last effect is the visit of the CPU that serves the key
+-- the system call with the effects `front` was not interrupted, and the last of these effects is `cpu`, the visit that
+-- serves the key
 record Ends (front : List Effect) (cpu : CpuVisit) : Type 0 where
   calm : was_interrupted front ≡ false
   serves : served_bytes front ≡ cpu.serves
@@ -112,7 +114,8 @@ module _ (book book' : Book) (who : Who) (set : Setting) where
   same_ready ds ds' same ready = let P : List ℕ → Type 0 = λ gs. AllByRecursion (λ g. 1 ≤ g) gs in
       subst P (same_looks book book' who ds ds' same) ready
 
-  -- two system calls that begin at the same step end at the same step, and read their keys from the same visit
+  -- the system calls with the effects `call` and `call'`, one in each book, end at the same step, and read their keys
+  -- from the same visit
   record SameRead (call call' more more' : List Effect) : Type 0 where
     key : List ℕ
     key' : List ℕ
@@ -175,7 +178,7 @@ module _ (book book' : Book) (who : Who) (set : Setting) where
     pub points : V (points_of steps)
     pub points' : V (points_of steps')
 
-  -- a later moment of the vread, at which these steps are left in the two books
+  -- a later moment of the vread, at which the host's steps `steps` and `steps'` are left in the two books
   pub record Further (V : List PointReached → Type 0) (steps steps' : List HostStep) (ds ds' : List Effect) : Type 0 where
     pub effects : List Effect
     pub effects' : List Effect

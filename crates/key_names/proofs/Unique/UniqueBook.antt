@@ -25,7 +25,7 @@ book_is_unique script t one other =
     (book, alike.equal (ap lists_of book))
 
 module _ (script : Script) (t : List (List SeenLine)) where
-  -- the clause holds. For the last three clauses, this includes that the steps make a book
+  -- a clause of the transcript holds. For the last three clauses, this includes that the steps make a book
   abbrev Passes : Clause → Type 0
   Passes lines_clause = HasLines script t
   Passes marks_clause = MarksConform script t

@@ -52,7 +52,8 @@ module _ (book book' : Book) (who : Who) (samples : LawfulSamples book) (samples
   abbrev Tell : (List Effect → Type 0) → (List Effect → Type 0) → Type 0
   Tell = Tells book book' who
 
-  -- if equal lists of the pool imply equal thresholds, the form of the effects after a credit determines their entries
+  -- let equal lists of the pool in both books imply that a credit crosses the same threshold. Then the form of the
+  -- effects after the credit determines their entries
   inferred_cross : (set : Setting) (c c' : Crossing) → ((lists_of book).pool ≡ (lists_of book').pool → c ≡ c') →
       Tell (Cross set c) (Cross set c')
   inferred_cross set none none alike ds ds' f f' same = inferred_nothing book book' who ds ds' f f' same
@@ -182,7 +183,7 @@ module _ (book book' : Book) (who : Who) (samples : LawfulSamples book) (samples
   is_dump : (e : CpuEntry) (now : ℕ) → e ≡ Dump now → IsDump e
   is_dump e now p = subst IsDump (sym p) tt
 
-  -- the CPUs' lists determine what a dump mixes
+  -- the CPUs' lists determine the bytes and bits that a dump mixes into the pool
   same_mix : (set : Setting) (text text' : List ℕ) (bits bits' now now' : ℕ) (dump dump' : CpuVisit)
       (pool pool' : PoolVisit) →
       SameCpu book book' who dump dump' → SamePool book book' who pool pool' → dump.entry ≡ Dump now →

@@ -42,7 +42,7 @@ same_lists {E = E} (x ∷ xs) (y ∷ ys) long each =
     (ap (λ z. z ∷ take i xs) here ∙ ap (λ zs. y ∷ zs) same)) in
     ap (λ z. z ∷ xs) here ∙ ap (λ zs. y ∷ zs) rest
 
--- if two lists of lists have the same length, and the lists at each place are equal, then both are equal
+-- if `xss` and `yss` have the same length, and their lists at each place are equal, then `xss` and `yss` are equal
 same_rows : {E : Type 0} (xss yss : List (List E)) → length xss ≡ length yss →
     ((i : ℕ) → list_at xss i ≡ list_at yss i) → xss ≡ yss
 same_rows [] [] long each = refl
@@ -51,7 +51,7 @@ same_rows (xs ∷ xss) [] long each = absurd (omega arith)
 same_rows (xs ∷ xss) (ys ∷ yss) long each =
     ap (λ z. z ∷ xss) (each 0) ∙ ap (λ zs. ys ∷ zs) (same_rows xss yss (omega arith) (λ i. each (suc i)))
 
--- a CPU's batches depend only on its own list
+-- the fills of a CPU's batches depend only on that CPU's list, and not on the base's
 fills_alone : (base base' : List BaseEntry) (c : ℕ) (es : List CpuEntry) (s s' : CpuState) → s.place ≡ s'.place →
     s.key ≡ s'.key → s.fills ≡ s'.fills → (fold (cpu_step base c) s es).fills ≡ (fold (cpu_step base' c) s' es).fills
 fills_alone base base' c [] s s' place key fills = fills
@@ -60,7 +60,7 @@ fills_alone base base' c (e ∷ es) s s' place key fills =
     (λ i. cpu_key_after c (place i) e (key i))
     (λ i. fills_after (place i) e (cpu_key_in_use e (key i)) (fills i))
 
--- any maker will do here: whether two entries are the same does not depend on the maker
+-- a maker for the lemmas that need one: whether two entries are the same does not depend on the maker
 abbrev nobody : Who
 nobody = record { caller = 0; event = 0; step = 0 }
 
@@ -183,7 +183,7 @@ module _ (book book' : Book) (marks : List MarkBy) (places : (lane : LaneId) →
       (slice_get m.base i) (slice_get m'.base i) x y p q (place_inferred BaseLane i (omega arith)) pool_same
       (ap (λ es. (base_after es).generation) same))
 
-  -- at each place, both books have the same stamp and maker
+  -- at each place of a lane, the visits in both books have the same stamp and maker
   same_stamps : (lane : LaneId) (i : ℕ) → i < lane_length book lane → stamped_at book lane i ≡ stamped_at book' lane i
   same_stamps lane i lt =
       let count = lane_counts book marks places visits lane in
@@ -192,7 +192,7 @@ module _ (book book' : Book) (marks : List MarkBy) (places : (lane : LaneId) →
       ∙ sym both.1) (each_both _ _ marks visits.conform visits'.conform)) i
       (omega arith)
 
-  -- if the lists of states are the same, both books are the same
+  -- if the two books have the same lists of vgetrandom states, then the books are the same
   pub same_book : book.callers ≡ book'.callers → book ≡ book'
   same_book callers =
       let pool : book.pool ≡ book'.pool = visits_same book.pool book'.pool (lengths PoolLane)

@@ -45,7 +45,7 @@ entry_of {E = E} visits place who f =
     let entry : Visit E → E = λ visit. visit.entry in
     slice_get-map entry visits place ∙ ap (λ o. option_map entry o) f.is
 
--- the entries at a place of two equal lists are equal
+-- if `xs` and `ys` are equal, so are their entries at `place`
 pub one_entry : {E : Type 0} (xs ys : List E) (place : ℕ) (x y : E) → slice_get xs place ≡ Some x →
     slice_get ys place ≡ Some y →
     xs ≡ ys → x ≡ y
@@ -66,7 +66,7 @@ module _ (book book' : Book) (lawful : LawfulLanes (lists_of book)) (lawful' : L
   abbrev by : ℕ → Who
   by i = record { caller = c; event = n; step = i }
 
-  -- the visit that was found was made by this event
+  -- the visit that `f` has found was made by the event of `who`
   made_by : {E : Type 0} (visits : List (Visit E)) (i place : ℕ) (f : Found visits place (by i)) →
       SameEvent f.visit.who who
   made_by visits i place f = (ap (λ (w : Who). w.caller) f.made, ap (λ (w : Who). w.event) f.made)

@@ -39,7 +39,7 @@ module _ (book book' : Book) (samples : LawfulSamples book) (samples' : LawfulSa
   abbrev H : Type 0
   H = lists_of book ≡ lists_of book'
 
-  -- the line's steps have matching effects in both books
+  -- SameSteps holds for the effects that the line's steps have in the two books
   abbrev pub LineSame : SeenLine → Type 0
   LineSame line =
       SameSteps book book' (maker line) (effects_of (lists_of book) line.steps) (effects_of (lists_of book') line.steps)
@@ -58,7 +58,7 @@ module _ (book book' : Book) (samples : LawfulSamples book) (samples' : LawfulSa
   pub effects_equal : (line : SeenLine) (m m' : LineMeaning) → After line m → After' line m' → H → m.effects ≡ m'.effects
   effects_equal line m m' p p' h = sym p ∙ ap (λ lists. effects_of lists line.steps) h ∙ p'
 
-  -- the meanings of a call in the two books are alike
+  -- `m` and `m'`, the meanings of a call in the two books, are alike
   pub record MeaningAlike (call : Call) (m m' : CallMeaning) : Type 0 where
     pub inferred : OfCall LineInferred call
     pub entries : m.entries ≡ m'.entries
@@ -128,7 +128,7 @@ module _ (book book' : Book) (samples : LawfulSamples book) (samples' : LawfulSa
         });
   }
 
-  -- the meanings of an act inside a vread are alike in the two books
+  -- `m` and `m'`, the meanings of an act inside a vread in the two books, are alike
   record ActAlike (line : SeenLine) (m m' : LineMeaning) : Type 0 where
     inferred : LineInferred line
     equal : H → m ≡ m'

@@ -167,7 +167,7 @@ module _ (book book' : Book) (samples : LawfulSamples book) (samples' : LawfulSa
   meaning_alike (ending line) m m' same p p' before a a' =
       ending_alike book book' samples samples' line m m' same p p' before a a'
 
-  -- the meanings of one caller's calls are alike in the two books
+  -- `ms` and `ms'`, the meanings of one caller's calls in the two books, are alike
   pub record CallsAlike (calls : List Call) (ms ms' : List CallMeaning) : Type 0 where
     pub inferred : AllByRecursion (OfCall Inferred) calls
     pub entries : (k : ℕ) → entries_of_state k ms ≡ entries_of_state k ms'

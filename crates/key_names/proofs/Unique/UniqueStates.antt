@@ -110,7 +110,7 @@ module _ (H : Type 0) where
     equal = λ h. ap (λ x. prefix_attempt x a) p ∙ ap (λ x. prefix_attempt es' x) (same.equal h);
   }
 
-  -- two calls with the same entries, and with states that are alike. If H holds, the outcomes are equal
+  -- the outcomes of two calls have the same entries, and states that are alike. If H holds, the outcomes are equal
   pub record SameOutcome (o o' : Outcome) : Type 0 where
     pub entries : o.entries ≡ o'.entries
     pub state : SameState o.state o'.state

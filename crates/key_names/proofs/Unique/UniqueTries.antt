@@ -37,7 +37,8 @@ module _ (book book' : Book) (who : Who) (set : Setting) (W V : List PointReache
     pub attempt : SameAttempt H a a'
     pub points : points_of more ≡ points_of more' → points_of (steps ++ more) ≡ points_of (steps' ++ more')
 
-  -- if F and F' hold for two attempts with the same steps, and U holds for their points, then the attempts are alike
+  -- if F and F' hold for two attempts with the same steps, and U holds for the points that are left, then the attempts
+  -- are alike
   abbrev pub GoAlike : (List PointReached → Type 0) → (List HostStep → Attempt → Type 0) →
       (List HostStep → Attempt → Type 0) → Type 0
   GoAlike U F F' = (steps steps' : List HostStep) (a a' : Attempt) (ds ds' : List Effect) → F steps a → F' steps' a' →

@@ -13,13 +13,14 @@ use Rattle.key_names.specs.Lanes.BaseList.{BaseState, BaseMayCome, RootConforms,
 use Rattle.key_names.proofs.Uses.UseLists.{Disjoint-two, named_uses_cases, named_uses_disjoint, read_disjoint, read_within, choice_cases}
 use Rattle.key_names.proofs.Uses.Walks.{StepFacts, Walk, walk, lawful_and_inferred}
 
--- the name was made before `place`, or it is a root with a number below `roots`
+-- the name was made by an entry of the base before `place`, or it is a root with a number below `roots`
 abbrev pub IsOld : ℕ → ℕ → KeyName → Type 0
 IsOld place roots (Root r) = r < roots
 IsOld place roots (Base i) = i < place
 IsOld place roots _ = ⊥
 
--- only entries from this place on can use the name; `refill` gives the refill at each place
+-- only entries of the base from `place` on can use the name; `refill` gives the refill that the entry at each place
+-- names
 abbrev pub IsLater : (ℕ → Option (ℕ × ℕ)) → ℕ → ℕ → KeyName → Type 0
 IsLater refill place roots (Root r) = roots ≤ r
 IsLater refill place roots (Base i) = place ≤ i
@@ -59,7 +60,7 @@ old_not_later refill place roots (Cpu c k) old later = old
 old_not_later refill place roots (Call lane i) old later = old
 old_not_later refill place roots (Vdso c v n) old later = old
 
--- the key in use is the key before the entry, or the root that the entry names
+-- the key in use at an entry e is `key`, the key before e, or the root that e names
 pub in_use_cases : (e : BaseEntry) (key : Option KeyName) (k : KeyName) → base_key_in_use e key ≡ Some k →
     ((root_of e ≡ None) × (key ≡ Some k)) ⊎ ((r : ℕ) × (root_of e ≡ Some r) × (Root r ≡ k))
 in_use_cases e key k = go (root_of e) refl
@@ -74,7 +75,8 @@ roots_rise : (pool : List PoolEntry) (s : BaseState) (o : Option ℕ) → RootCo
 roots_rise pool s None h = omega arith
 roots_rise pool s (Some r) h = omega arith
 
--- the uses of an entry do not overlap. They are of the key in use, or of the call key that the entry's place names
+-- the uses of an entry do not overlap. They are uses of the key in use, or of the call key (bytes 32 to 64) of the
+-- entry's place
 record EntryUses (s : BaseState) (e : BaseEntry) : Type 0 where
   disjoint : Disjoint (base_uses_at s e)
   within : (k : KeyName) (q : ℕ) → IsUsed (base_uses_at s e) k q →
@@ -121,7 +123,7 @@ entry_uses s Interrupt = none_used s Interrupt refl
 entry_uses s Stall = none_used s Stall refl
 entry_uses s Unstall = none_used s Unstall refl
 
--- the base's key in a state has an old name
+-- the name of the base's key in the state s is old (`IsOld`)
 abbrev pub KeyIsOld : BaseState → Type 0
 KeyIsOld s = (k : KeyName) → s.key ≡ Some k → IsOld s.place s.roots k
 
@@ -168,15 +170,15 @@ old_after refill s e used k h = elim (after_cases s.place e s.key k h) [
   | inr b ↦ old_more s.place (roots_after (root_of e) s.roots) _ k (omega arith) (used.old k b.1)
 ]
 
--- the bytes that entries after this state may use
+-- entries after the state s may use byte q of the key k
 abbrev pub MayUse : (ℕ → Option (ℕ × ℕ)) → BaseState → KeyName → ℕ → Type 0
 MayUse refill s k q = (s.key ≡ Some k) ⊎ IsLater refill s.place s.roots k
 
--- the keys that the base may have now or later
+-- the base may have the key k in the state s or later
 abbrev pub MayHold : (ℕ → Option (ℕ × ℕ)) → BaseState → KeyName → Type 0
 MayHold refill s k = MayUse refill s k 0
 
--- if MayUse allows a byte after an entry, it also allows the byte before the entry
+-- if MayUse allows a byte after the entry `e`, it also allows the byte before `e`
 may_before : (refill : ℕ → Option (ℕ × ℕ)) (s : BaseState) (e : BaseEntry) → InUse refill s e →
     (k : KeyName) (q : ℕ) → MayUse refill (base_step s e) k q → MayUse refill s k q
 may_before refill s e used k q (inr later) = inr (later_less refill s.place s.roots _ k used.rise later)
@@ -205,7 +207,7 @@ now_not_later refill s e used k q erases now (inl h) = elim (after_cases s.place
   | inr b ↦ (let p = b.0 in cc)
 ]
 
--- a root that an entry names is not old before the entry
+-- if an entry names the root `r`, then the name of `r` is not old before the entry
 root_not_old : (pool : List PoolEntry) (s : BaseState) (o : Option ℕ) (r : ℕ) (k : KeyName) → RootConforms pool s o →
     o ≡ Some r →
     Root r ≡ k → IsOld s.place s.roots k → ⊥

@@ -8,7 +8,7 @@ use Rattle.key_names.specs.Keys.Uses.{kept, served, use_of, IsUsed, Disjoint, ba
 use Rattle.key_names.specs.Kernel.Batches.{Fill, one_more_served}
 use Rattle.key_names.proofs.Uses.UseLists.{UsesByte, one_use, one_use_disjoint, choice_cases}
 
--- byte q of the key is in a batch that was filled with the key, and the byte was not served yet
+-- byte q of the key is in a batch of the CPU that was filled with the key, and was not served yet
 pub record InBatch (fills : ℕ → Option Fill) (key : KeyName) (q : ℕ) : Type 0 where
   pub width : ℕ
   pub fill : Fill
@@ -29,7 +29,7 @@ in_batch fills k q b = record { fill = b.fill; is = b.is; key_is = b.key_is }
 pub none_filled : (w : ℕ) (k : KeyName) → Filled (λ w. None) w k → ⊥
 none_filled w k f = let e = f.is in cc
 
--- the fills after the batch of this width was filled
+-- the fills after the batch of `width` was filled at `place` with the key `used`
 abbrev pub filled_after : ℕ → ℕ → ℕ → Option KeyName → (ℕ → Option Fill) → ℕ → Option Fill
 filled_after place width look used fills w =
     if w == width then Some (record { key = used; place = place; count = 1; look = look }) else fills w
@@ -49,7 +49,7 @@ filled_cases place width look used fills w f is =
       | inr b ↦ inr b.1
     ]
 
--- the fills after the batch of this width served one more integer
+-- the fills after the batch of `width` served one more integer
 abbrev pub served_after : ℕ → (ℕ → Option Fill) → ℕ → Option Fill
 served_after width fills w = if w == width then one_more_served (fills w) else fills w
 
@@ -85,7 +85,7 @@ pub filled_before : (width : ℕ) (fills : ℕ → Option Fill) (w : ℕ) (k : K
 filled_before width fills w k f = let m = before_serving width fills w f.fill f.is in
     record { fill = m.fill; is = m.is; key_is = m.same_key ∙ f.key_is }
 
--- the next integer of the batch of this width uses byte q of key k
+-- the next integer of the batch of `width` uses byte q of key k
 pub record Serves (fills : ℕ → Option Fill) (width : ℕ) (k : KeyName) (q : ℕ) : Type 0 where
   pub fill : Fill
   pub is : fills width ≡ Some fill

@@ -27,7 +27,7 @@ use Rattle.key_names.proofs.Uses.CpuNames as cpu_names
 use Rattle.key_names.proofs.Uses.CpuUses as cpu_side
 use Rattle.key_names.proofs.Uses.StateUses as state_side
 
--- only entries of this holder can use the name
+-- only entries of this holder's list can use the name k
 abbrev pub Own : Lists → KeyHolder → KeyName → Type 0
 Own lists base_key k = base_side.IsLater (refill_at lists.base) 0 0 k
 Own lists (cpu_key c) k = cpu_names.IsLater lists.base c (taken_at (cpu_list lists c)) 0 k
@@ -112,7 +112,7 @@ named_byte (Some key) from len span k q is h =
     let b : HoldsByte (record { key = key; from = from; len = len }) k q = subst P (sym e) h in
     record { key_is = ap Some b.same_key; above = b.from; below = b.below }
 
--- a byte in the unserved span of a CPU's batch is in the batch
+-- if byte q of key k is in the unserved span of a CPU's batch, then it is in the batch (`InBatch`)
 pub fill_byte : (fills : ℕ → Option Fill) (width : ℕ) (span : Span) (k : KeyName) (q : ℕ) →
     fill_rest width (fills width) ≡ Some span → HoldsByte span k q → (b : InBatch fills k q) × (b.width ≡ width)
 fill_byte fills width span k q is h = go (fills width) refl is
@@ -211,7 +211,7 @@ module _ (lists : Lists) (lanes : ForwardLawful lists) (states : LawfulStates li
   cpus_part = parts_below (λ c. Own lists (cpu_key c)) (cpu_uses lists) (cpus_apart lists)
       (λ c. own_uses (cpu_key c)) (length lists.cpus)
 
-  -- the caller and the state of a state's key
+  -- the caller and the number of the vgetrandom state that holds a key, and 0 for other holders
   abbrev caller_of : KeyHolder → ℕ
   caller_of base_key = 0
   caller_of (cpu_key c) = 0

@@ -20,13 +20,13 @@ module _ (base : List BaseEntry) (c : ℕ) (taken : ℕ → Option Taken) where
   pub made_once : (b k l : ℕ) → MadeFor b k → MadeFor b l → k ≡ l
   made_once b k l m n = ap (λ o. option_map_or (λ p. p.1) o 0) (sym m.is ∙ n.is)
 
-  -- a name that this CPU had in use before this place
+  -- the name of a key that CPU c kept, or was handed by the base, at a place before `place`
   abbrev pub IsOld : ℕ → KeyName → Type 0
   IsOld place (Cpu d i) = (d ≡ c) × (i < place)
   IsOld place (Call BaseLane b) = (k : ℕ) × MadeFor b k × (k < place)
   IsOld place _ = ⊥
 
-  -- a name that only this CPU's entries from this place on can use
+  -- the name of a key that only CPU c's entries from `place` on can use
   abbrev pub IsLater : ℕ → KeyName → Type 0
   IsLater place (Cpu d i) = (d ≡ c) × (place ≤ i)
   IsLater place (Call BaseLane b) = (k : ℕ) × MadeFor b k × (place ≤ k)
@@ -64,7 +64,7 @@ module _ (base : List BaseEntry) (c : ℕ) (taken : ℕ → Option Taken) where
   pub old_not_next : (place : ℕ) (key : KeyName) → IsOld place key → IsLater (suc place) key → ⊥
   old_not_next place key old later = old_not_later place key old (later_less place key later)
 
-  -- only entries from this place on can use the name of the key that this place keeps
+  -- if k is the name of the key that the entry at `place` keeps, then only entries from `place` on can use k
   pub own_later : (place : ℕ) (k : KeyName) → Cpu c place ≡ k → IsLater place k
   own_later place k e = let P : KeyName → Type 0 = λ x. IsLater place x in subst P e (refl, omega arith)
 
@@ -91,7 +91,7 @@ module _ (base : List BaseEntry) (c : ℕ) (taken : ℕ → Option Taken) where
   made_for place Prepare m b is = cc
   made_for place Online m b is = cc
 
-  -- only entries from this place on can use the name of the key that a refill hands over for this place
+  -- if k is the name of the key that refill `b` hands over for `place`, then only entries from `place` on can use k
   pub call_later : (place b : ℕ) (k : KeyName) → MadeFor b place → Call BaseLane b ≡ k → IsLater place k
   call_later place b k made e = let P : KeyName → Type 0 = λ x. IsLater place x in subst P e (place, made, omega arith)
 

@@ -28,7 +28,7 @@ module _ (base : List BaseEntry) (c : ℕ) (taken : ℕ → Option Taken) where
   abbrev pub IsLater : ℕ → KeyName → Type 0
   IsLater = names.IsLater base c taken
 
-  -- the lemmas of CpuNames for this CPU
+  -- the lemmas of CpuNames for CPU c
   old_more : (place : ℕ) (key : KeyName) → IsOld place key → IsOld (suc place) key
   old_more = names.old_more base c taken
 
@@ -60,12 +60,12 @@ module _ (base : List BaseEntry) (c : ℕ) (taken : ℕ → Option Taken) where
     pub key_apart : (w : ℕ) (k : KeyName) → key ≡ Some k → Filled fills w k → ⊥
     pub fills_apart : (v w : ℕ) (k : KeyName) → Filled fills v k → Filled fills w k → v ≡ w
 
-  -- the bytes that entries from this place on may use
+  -- entries from `place` on may use byte q of the key k
   abbrev pub MayUse : ℕ → Option KeyName → (ℕ → Option Fill) → KeyName → ℕ → Type 0
   MayUse place key fills k q = (key ≡ Some k) ⊎ InBatch fills k q ⊎ IsLater place k
 
-  -- the name of the key in use at an entry is old for the next place. It is neither this place's name nor the name of a
-  -- fill's key
+  -- the name of `used`, the key in use at `place`, is old for the next place. It is neither the name of the key that
+  -- `place` keeps nor the name of a fill's key
   pub record InUse (place : ℕ) (key used : Option KeyName) (fills : ℕ → Option Fill) : Type 0 where
     pub old : (k : KeyName) → used ≡ Some k → IsOld (suc place) k
     pub not_own : (k : KeyName) → used ≡ Some k → Cpu c place ≡ k → ⊥
@@ -89,7 +89,8 @@ module _ (base : List BaseEntry) (c : ℕ) (taken : ℕ → Option Taken) where
     may = λ k h. inr (call_later place b k (made b refl) cc);
   }
 
-  -- an entry uses only bytes that MayUse allows before the entry and no longer allows after it, and preserves KeysApart
+  -- an entry with the uses `now` uses only bytes that MayUse allows before the entry and no longer allows after it, and
+  -- preserves KeysApart
   pub record StepOk (place : ℕ) (key : Option KeyName) (fills : ℕ → Option Fill)
       (now : List Use) (key' : Option KeyName) (fills' : ℕ → Option Fill) : Type 0 where
     pub disjoint : Disjoint now

@@ -15,7 +15,7 @@ use Rattle.key_names.proofs.Uses.CpuSteps as steps
 use Rattle.key_names.proofs.Uses.Walks.{StepFacts, Walk, walk, lawful_and_inferred}
 
 module _ (base : List BaseEntry) (c : ℕ) (taken : ℕ → Option Taken) where
-  -- the keys that the CPU may have now or later
+  -- the CPU may have the key k in the state s or later
   abbrev pub MayHold : CpuState → KeyName → Type 0
   MayHold s k = (s.key ≡ Some k) ⊎ names.IsLater base c taken s.place k
 

@@ -13,8 +13,8 @@ use Rattle.key_names.specs.Lanes.StateList.{Expected, anything, new_key, refill_
 use Rattle.key_names.proofs.Uses.UseLists.{one_use, one_use_disjoint}
 use Rattle.key_names.proofs.Uses.Walks.{StepFacts, Walk, walk, lawful_and_inferred}
 
--- byte q of the key is unused. If a refill from block n must come next, the bytes from 64 n on are unused. Otherwise
--- all bytes of the key are unused
+-- byte q of the state's key is unused. If a refill from block n must come next, the bytes from 64 n on are unused.
+-- Otherwise all bytes of the key are unused
 abbrev pub IsUnused : Expected → ℕ → Type 0
 IsUnused anything q = Unit {0}
 IsUnused new_key q = Unit {0}
@@ -32,7 +32,7 @@ may_refill_unused (refill_from n) from q h le = let P : ℕ → Type 0 = λ x. 6
 
 -- `rekeys` gives the read that the entry at each place takes as a key
 module _ (caller state : ℕ) (rekeys : ℕ → Option (ℕ × ℕ)) where
-  -- the name of a key that an entry from this place on takes
+  -- k is the name of a read that an entry from `place` on takes as a key
   pub record TakenFrom (place : ℕ) (k : KeyName) : Type 0 where
     pub at : ℕ
     pub above : place ≤ at
@@ -41,27 +41,27 @@ module _ (caller state : ℕ) (rekeys : ℕ → Option (ℕ × ℕ)) where
     pub taken : rekeys at ≡ Some (cpu, cpu_place)
     pub is : Call (CpuLane cpu) cpu_place ≡ k
 
-  -- the name of a key that a refill with this number or a later one keeps
+  -- k is the name of a key that the refill with the number `refills` or a later one keeps
   pub record KeptFrom (refills : ℕ) (k : KeyName) : Type 0 where
     pub number : ℕ
     pub above : refills ≤ number
     pub is : Vdso caller state number ≡ k
 
-  -- only entries from this place on can use the name
+  -- k is the name of a key that only entries from `place` on can use; `refills` is the number of refills before
   abbrev pub IsLater : ℕ → ℕ → KeyName → Type 0
   IsLater place refills k = KeptFrom refills k ⊎ TakenFrom place k
 
-  -- byte q of the key is in the batch, and the byte was not served yet
+  -- byte q of the key k is in the batch of the state s, and was not served yet
   pub record InBatch (s : NamedState) (k : KeyName) (q : ℕ) : Type 0 where
     pub key_is : s.batch_key ≡ Some k
     pub from : 64 * s.batch_from + s.pos ≤ q
     pub below : q < 64 * s.batch_from + 96
 
-  -- the bytes that entries after this state may use
+  -- entries after the state s may use byte q of the key k
   abbrev pub MayUse : NamedState → KeyName → ℕ → Type 0
   MayUse s k q = ((s.key ≡ Some k) × IsUnused s.expected q) ⊎ InBatch s k q ⊎ IsLater s.place s.refills k
 
-  -- the keys that the vgetrandom state may have now or later
+  -- the vgetrandom state may have the key k after the entries that lead to s, or later
   abbrev pub MayHold : NamedState → KeyName → Type 0
   MayHold s k = (s.key ≡ Some k) ⊎ IsLater s.place s.refills k
 
@@ -88,8 +88,8 @@ module _ (caller state : ℕ) (rekeys : ℕ → Option (ℕ × ℕ)) where
   later_next : (s : NamedState) (k : KeyName) → IsLater (suc s.place) s.refills k → IsLater s.place s.refills k
   later_next s k l = later_less s.place s.refills s.refills k (omega arith) l
 
-  -- only entries from this place on can use the name of the read that a rekey takes, or the name of the key that a
-  -- refill keeps
+  -- if k is the name of the read that the rekey at the next place takes, IsLater holds for k; below, the same for the
+  -- key that a refill keeps
   taken_here : (s : NamedState) (cpu cpu_place : ℕ) (k : KeyName) → rekeys s.place ≡ Some (cpu, cpu_place) →
       Call (CpuLane cpu) cpu_place ≡ k →
       IsLater s.place s.refills k
@@ -107,7 +107,7 @@ module _ (caller state : ℕ) (rekeys : ℕ → Option (ℕ × ℕ)) where
       StepFacts (MayComeInferred cpu_list) (state_step caller state)
       state_uses_at StateReplaces KeysApart MayUse MayHold s e
 
-  -- no two entries take the same read
+  -- no two entries of the state take the same read as a key
   abbrev pub OneTaker : Type 0
   OneTaker = (a b : ℕ) (read : ℕ × ℕ) → rekeys a ≡ Some read → rekeys b ≡ Some read → a ≡ b
 

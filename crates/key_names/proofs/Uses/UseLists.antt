@@ -24,7 +24,7 @@ pub used_second : (us vs : List Use) (key : KeyName) (q : ℕ) → IsUsed vs key
 used_second [] vs key q h = h
 used_second (u ∷ us) vs key q h = inr (used_second us vs key q h)
 
--- the parts of a disjoint list are disjoint too, and no byte is in both
+-- the lists `us` and `vs` are both disjoint, and no byte is in both lists
 pub record DisjointParts (us vs : List Use) : Type 0 where
   pub first : Disjoint us
   pub second : Disjoint vs
@@ -43,7 +43,7 @@ disjoint_parts (u ∷ us) vs d =
       ];
     }
 
--- two disjoint lists, joined, are disjoint if no byte is in both
+-- if `us` and `vs` are disjoint, and no byte is in both lists, then `us ++ vs` is disjoint
 pub Disjoint-append : (us vs : List Use) → Disjoint us → Disjoint vs →
     ((key : KeyName) (q : ℕ) → IsUsed us key q → IsUsed vs key q → ⊥) → Disjoint (us ++ vs)
 Disjoint-append [] vs a b apart = b
@@ -53,7 +53,7 @@ Disjoint-append (u ∷ us) vs a b apart = (
   Disjoint-append us vs a.1 b (λ key q h r. apart key q (inr h) r),
 )
 
--- if a use ends before another begins, they have no byte in common
+-- if the use u ends before the use v begins, u and v have no byte in common
 apart_spans : (u v : Use) (key : KeyName) (q : ℕ) → u.span.from + u.span.len ≤ v.span.from → HoldsByte u.span key q →
     HoldsByte v.span key q → ⊥
 apart_spans u v key q le h m = omega arith
@@ -108,7 +108,7 @@ pub one_use_disjoint : (purpose : Purpose) (o : Option KeyName) (from len : ℕ)
 one_use_disjoint purpose None from len = tt
 one_use_disjoint purpose (Some key) from len = Disjoint-one (use_of purpose key from len)
 
--- the read is for a user and longer than 32 bytes, so a call key serves it
+-- the read is for a user and longer than 32 bytes, so a key made of bytes 32 to 64 (a call key) serves it
 abbrev pub IsLong : Option Taken → Type 0
 IsLong None = ⊥
 IsLong (Some (User n)) = 32 < n
@@ -152,18 +152,18 @@ read_within rekeys key call (User n) k q (inr h) = go (nat_lt 32 n) refl h
     ]
     go false is h = inl (one rekeys h)
 
--- if a choice has the value `z`, then the side that the test selects has the value `z`
+-- if the choice between x and y by `b` is z, then either `b` is true and x is z, or `b` is false and y is z
 pub choice_cases : {A : Type 0} (b : Bool) (x y z : A) → (if b then x else y) ≡ z →
     ((b ≡ true) × (x ≡ z)) ⊎ ((b ≡ false) × (y ≡ z))
 choice_cases true x y z e = inl (refl, e)
 choice_cases false x y z e = inr (refl, e)
 
--- the uses are disjoint, and only of names for which Own holds
+-- the uses `us` are disjoint, and they use only keys with names for which Own holds
 pub record Part (Own : KeyName → Type 0) (us : List Use) : Type 0 where
   pub disjoint : Disjoint us
   pub within : (k : KeyName) (q : ℕ) → IsUsed us k q → Own k
 
--- Own holds for the name and for some number that is at least `from`
+-- Own holds for the name k and for some number that is at least `from`
 pub record OwnFrom (Own : ℕ → KeyName → Type 0) (from : ℕ) (k : KeyName) : Type 0 where
   pub number : ℕ
   pub above : from ≤ number
@@ -203,7 +203,7 @@ used_from f from (suc count) k q h =
     elim (IsUsed-append_cases (f from) (flat_map f (range_with_len (from + 1) count)) k q h)
     [ inl a ↦ (from, a) | inr b ↦ used_from f (from + 1) count k q b ]
 
--- if a byte is among the uses of all numbers below `count`, it is among the uses of some number
+-- if a byte is in the uses `f n` of all numbers n below `count` together, it is in `f n` for some number n
 pub used_below : (f : ℕ → List Use) (count : ℕ) (k : KeyName) (q : ℕ) → IsUsed (uses_below count f) k q →
     (n : ℕ) × IsUsed (f n) k q
 used_below f count k q h = used_from f 0 count k q h

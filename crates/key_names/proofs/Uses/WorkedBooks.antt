@@ -18,7 +18,8 @@ use Rattle.key_names.specs.Lanes.Book.{Lists, cpu_list, state_list, LawfulBook, 
 use Rattle.key_names.specs.Keys.Uses.{kept, served, use_of, uses}
 use Rattle.key_names.specs.Keys.LiveMaterial.{base_key, cpu_key, state_key, cpu_batch, state_batch, live_key, live_rest, named_span}
 
--- a book with one reseed. A CPU fills a batch and reads a key for a vgetrandom state, which serves 140 bytes
+-- a book with one reseed. A CPU fills a batch, and a read from that CPU gives a vgetrandom state its key. The state
+-- serves 140 bytes
 abbrev book : Lists
 book = record {
   pool = Mix [] 256 ∷ Extract (replicate 32 0) 0 ∷ [];
@@ -103,7 +104,7 @@ states_lawful zero zero = record {
 states_lawful zero (suc state) = record { comes = tt; ends = refl }
 states_lawful (suc caller) state = record { comes = tt; ends = refl }
 
--- only the first entry of the only list takes a read
+-- only the first entry of the only vgetrandom state's list takes a read as a key
 only_taker : (caller state place : ℕ) (read : ℕ × ℕ) →
     rekey_in book (record { caller = caller; state = state; place = place }) ≡ Some read →
     (caller ≡ 0) × (state ≡ 0) × (place ≡ 0)
@@ -138,7 +139,7 @@ refills (suc zero) c k is =
     ap (λ d. base_refill_at (cpu_list book d) k) (sym p) ∙ ap (base_refill_at (cpu_list book 0)) (sym q)
 refills (suc (suc b)) c k is = cc
 
--- the book is lawful
+-- the example's book is lawful
 pub book_is_lawful : LawfulBook book
 book_is_lawful = record {
   lanes = record {

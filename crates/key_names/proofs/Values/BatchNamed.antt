@@ -57,14 +57,15 @@ module _ (lists : Lists) (caller k : ℕ) where
   abbrev pub entry_uses : NamedState → List VEntry → List Use
   entry_uses t es = uses_from state_uses_at (state_step caller k) t es
 
-  -- the key is the value of its name, and the unserved bytes of the batch are keystream of the batch's named key
+  -- in the replay `x`, the key has the value of its name, and the unserved bytes of the batch are keystream of the
+  -- batch's named key
   pub record NamesTell (x : Both) : Type 0 where
     pub key : (name : KeyName) → x.named.key ≡ Some name → value_of lists name ≡ x.bytes.key
     pub rest : (name : KeyName) → x.named.batch_key ≡ Some name →
         drop x.named.pos x.bytes.batch
         ≡ keystream (value_of lists name) (64 * x.named.batch_from + x.named.pos) (96 - x.named.pos)
 
-  -- if `o` names a key, a served use has `len` bytes of that key's keystream, from byte `from` on
+  -- if `o` is the key `name`, the use of `len` bytes from byte `from` on serves these bytes of the key's keystream
   one_served : (o : Option KeyName) (name : KeyName) (from len : ℕ) → o ≡ Some name →
       served_in lists (named_use served o from len) ≡ keystream (value_of lists name) from len
   one_served o name from len is =
@@ -125,7 +126,7 @@ module _ (lists : Lists) (caller k : ℕ) where
       left : ℕ
       left = bytes_left s
 
-      -- the first `len` unserved bytes of the batch are those that the entry for them serves
+      -- the entry for serving `len` bytes of the batch serves the first `len` unserved bytes of the batch
       front : (len : ℕ) → len ≤ 96 - s.pos →
           take len (drop s.pos s.batch) ≡ served_in lists (entry_uses x.named (serve_entry s.pos len))
       front zero le = refl
@@ -185,7 +186,7 @@ module _ (lists : Lists) (caller k : ℕ) where
   named_is x [] = refl
   named_is x (e ∷ es) = named_is (replay.step lists caller k x e) es
 
-  -- the names match the state after each prefix of the entries
+  -- NamesTell holds after each prefix `pre` of the entries `es`
   abbrev pub Fronts : Both → List VEntry → Type 0
   Fronts x es = (pre post : List VEntry) → es ≡ pre ++ post → NamesTell (after x pre)
 
@@ -195,7 +196,7 @@ module _ (lists : Lists) (caller k : ℕ) where
       subst P (fold-append (replay.step lists caller k) x xs pre)
       (fronts (xs ++ pre) post (ap (λ zs. xs ++ zs) is ∙ sym (append_assoc xs pre post)))
 
-  -- the bytes of the named spans that these entries serve
+  -- the bytes of the named spans that the entries `es` serve after the replay `x`
   abbrev pub bytes_of : Both → List VEntry → List ℕ
   bytes_of x es = served_in lists (entry_uses x.named es)
 
@@ -205,7 +206,8 @@ module _ (lists : Lists) (caller k : ℕ) where
       ∙ served_append lists (entry_uses x.named xs) (entry_uses (fold (state_step caller k) x.named xs) ys)
       ∙ ap (λ t. bytes_of x xs ++ served_in lists (entry_uses t ys)) (sym (named_is x xs))
 
-  -- if the names match after each prefix of its entries, an attempt that held copied the bytes that its entries serve
+  -- if NamesTell holds after each prefix of an attempt's entries, and the attempt held, then it copied the bytes that
+  -- its entries serve
   abbrev pub AttemptNamed : Both → Attempt → Type 0
   AttemptNamed x attempt = Fronts x attempt.entries → attempt.end ≡ holds → attempt.out ≡ bytes_of x attempt.entries
 
@@ -346,14 +348,15 @@ module _ (lists : Lists) (caller k : ℕ) where
       is.rest attempt (λ u r rest later good f b. start_named n c is.published some u r rest later good f b)
       is.goes_on g.1 h
 
-  -- the last of these entries serve the bytes `out`
+  -- the last of the entries `es` serve the bytes `out`
   pub record LastServes (x : Both) (es : List VEntry) (out : List ℕ) : Type 0 where
     pub earlier : List VEntry
     pub last : List VEntry
     pub entries_are : es ≡ earlier ++ last
     pub bytes_are : out ≡ bytes_of (after x earlier) last
 
-  -- if the names match after each prefix, and the batch served the call, then the call's last entries serve its bytes
+  -- if NamesTell holds after each prefix of a call's entries, and the batch served the call, then the call's last
+  -- entries serve its bytes
   abbrev pub OutcomeNamed : Both → Outcome → Type 0
   OutcomeNamed x outcome = Fronts x outcome.entries → (out : List ℕ) → outcome.ending ≡ by_batch out →
       LastServes x outcome.entries out
@@ -368,8 +371,8 @@ module _ (lists : Lists) (caller k : ℕ) where
   system_named n flags x s steps outcome by fronts out ends =
       let e : by_system by.answer ≡ by_batch out = sym (ap (λ (o : Outcome). o.ending) by.outcome_is) ∙ ends in cc
 
-  -- if AttemptNamed holds for an attempt, and OutcomeNamed for the rest of its call, then OutcomeNamed holds for both
-  -- together
+  -- if AttemptNamed holds for an attempt, and OutcomeNamed for the rest of its call, then OutcomeNamed holds for the
+  -- attempt and the rest together
   pub rest_named : (n flags : ℕ) (Outdated : ℕ → VgetrandomState → List HostStep → Outcome → Type 0)
       (Tried : List HostStep → Attempt → Type 0) (x : Both) (steps : List HostStep) (outcome : Outcome) →
       ((tried : List HostStep) (attempt : Attempt) → Good lists tried → Tried tried attempt → AttemptNamed x attempt) →

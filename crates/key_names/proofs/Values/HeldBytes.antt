@@ -44,7 +44,8 @@ drop_both zero n rest = let p : zero + n ≡ n = omega arith in ap (λ i. drop i
 drop_both (suc m) n rest = let p : suc m + n ≡ suc (m + n) = omega arith in
     ap (λ i. drop i (0 ∷ (replicate m 0 ++ replicate n 0 ++ rest))) p ∙ drop_both m n rest
 
--- the rest of a new batch, of which w bytes were served, is keystream of the key
+-- if a new batch is keystream of `used` from byte `at` on, and w bytes of it were served, then its rest is keystream of
+-- `used` too
 new_rest : (at n w : ℕ) (key used : List ℕ) → n ≡ w → key ≡ used →
     drop n (with_zeros 0 w (keystream used at 96)) ≡ keystream key (at + n) (96 - n)
 new_rest at n w key used same is =
@@ -66,7 +67,7 @@ less_rest at pos n key bytes zeros is =
     ∙ sym (drop-drop n pos bytes) ∙ ap (drop n) is ∙ keystream-drop key (at + pos) n (96 - pos)
     ∙ ap (λ f. keystream key f ((96 - pos) - n)) p ∙ ap (keystream key (at + (pos + n))) q
 
--- the place of the entry after a prefix is the length of the prefix
+-- if `e` follows `front` in `xs`, then the place of `e` is the length of `front`
 pub entry_after : {A : Type 0} (xs front : List A) (e : A) (rest : List A) → xs ≡ (front ++ e ∷ []) ++ rest →
     slice_get xs (length front) ≡ Some e
 entry_after {A = A} xs front e rest is = ap (λ ys. slice_get ys (length front)) is ∙ go front

@@ -90,11 +90,11 @@ module _ (lists : Lists) where
     },
   )
 
-  -- no vgetrandom state takes the visit that is the last of these effects as its key
+  -- if the last effect is a CPU's visit, no vgetrandom state takes that visit's read as its key
   abbrev pub IsFree : List Effect → Type 0
   IsFree effects = (c p : ℕ) → is_rekeyed lists c p ≡ true → place_takes c p (last_place effects) ≡ 0
 
-  -- the line has no mark of a read that a vgetrandom state takes, so IsFree holds for its effects
+  -- the line has no mark of a read that a vgetrandom state takes as its key, so IsFree holds for the line's effects
   abbrev pub IsUntaken : SeenLine → Type 0
   IsUntaken line = (c p : ℕ) → is_rekeyed lists c p ≡ true → mark_takes (CpuLane c) p line.steps ≡ 0
 
@@ -138,8 +138,8 @@ module _ (lists : Lists) (named : VisitsServeNamed lists) where
   place_named BaseLane place free = base_place place (slice_get lists.base place) refl
   place_named (CpuLane c) place free = cpu_place c place (slice_get (cpu_list lists c) place) refl free
 
-  -- the bytes that a call serves are those of the named spans of its last visit, unless a state takes this visit as its
-  -- key
+  -- the bytes that `steps` serve are those of the named spans of their last visit, unless a vgetrandom state takes this
+  -- visit's read as its key
   served_named : (steps : List Step) → IsFree lists (effects_of lists steps) →
       served_bytes (effects_of lists steps) ≡ served_in lists (origins_uses lists (last_origin steps))
   served_named [] free = refl
@@ -149,8 +149,8 @@ module _ (lists : Lists) (named : VisitsServeNamed lists) where
   served_named (Look g ∷ next ∷ steps) free = served_named (next ∷ steps) free
   served_named (Marked mark ∷ next ∷ steps) free = served_named (next ∷ steps) free
 
-  -- if a line shows the bytes that its last visit serves, and no state takes this visit as its key, then `Prints` holds
-  -- for the line
+  -- if a line shows the bytes that its last visit serves, and no vgetrandom state takes this visit's read as its key,
+  -- then `Prints` holds for the line
   pub prints_visit : (own : StateEntries) (line : SeenLine) (effects : List Effect) → effects_of lists line.steps ≡ effects →
       line.shown ≡ bytes_or_none (served_bytes effects) → IsFree lists (effects_of lists line.steps) → Prints lists own line
   prints_visit own line effects is shown free = (

@@ -1,4 +1,4 @@
--- The lines of a lawful transcript print the bytes of named spans, and no byte twice.
+-- The lines of a lawful transcript print the bytes of named spans, and no byte of a key twice.
 use Rattle.std.proofs.Common.{◌≡◌, ℕ, suc, ◌+◌, ◌≤◌, ◌<◌, Bool, true, false, List, [], ◌∷◌, ◌++◌, inl, inr, refl, sym, subst, ap, ◌∙◌, arith, Some, length, take, append_assoc, append-nil}
 use Rattle.std.specs.Prelude.{◌==◌, map, slice_get, if◌then◌else◌}
 use Rattle.std.specs.List.{AllByRecursion, list_any}
@@ -43,8 +43,8 @@ module _ (lists : Lists) (named : VisitsServeNamed lists) (caller : ℕ) where
   abbrev ShownOf : SeenLine → LineMeaning → Type 0
   ShownOf = ShownIs lists named
 
-  -- for each read that some state takes as a key: the call's lines have the mark of the read at most as often as the
-  -- call's entries take the read
+  -- for each read that some vgetrandom state takes as a key: the call's lines have the read's mark at most as often as
+  -- the call's entries take the read
   abbrev IsQuiet : Call → CallMeaning → Type 0
   IsQuiet call m = (c p : ℕ) → is_rekeyed lists c p ≡ true → marks.call_marks (CpuLane c) p call ≤ takes c p m.entries
 

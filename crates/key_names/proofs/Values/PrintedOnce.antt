@@ -18,7 +18,8 @@ use Rattle.key_names.proofs.Uses.UseLists.{IsUsed-append_cases, Disjoint-append,
 use Rattle.key_names.proofs.Uses.BookUses.{own_once, own_uses, uses_of}
 use Rattle.key_names.proofs.Transcripts.TakenMarks.{hit, lane_takes}
 
--- the uses at one place are among the uses of the whole list. If the list's uses are disjoint, two places share no byte
+-- the uses of the entry at one place are among the uses of the whole list. If the list's uses are disjoint, the entries
+-- at two places use no byte in common
 module _ {S E : Type 0} (uses_at : S → E → List Use) (step : S → E → S) where
   abbrev at_place : S → List E → ℕ → List Use
   at_place s es i = uses_or (uses_at (fold step s (take i es))) (slice_get es i)
@@ -57,7 +58,7 @@ is_same (at_lane lane place) (at_state caller state there) = 0
 is_same (at_state caller state place) (at_lane lane there) = 0
 is_same (at_state caller state place) (at_state c k i) = hit (c == caller && (k == state && i == place))
 
--- how often an entry is in a list of entries
+-- how often the entry `o` is in a list of entries
 abbrev pub times : Origin → List Origin → ℕ
 times o [] = 0
 times o (x ∷ xs) = is_same o x + times o xs
@@ -99,7 +100,7 @@ module _ (lists : Lists) (lanes : ForwardLawful lists) (states : LawfulStates li
       ((own_uses lists lanes states (holder o)).within k q (of_holder o k q h))
       ((own_uses lists lanes states (holder x)).within k q (of_holder x k q m))
 
-  -- two entries that use the same byte are the same entry
+  -- if the entries `o` and `x` use the same byte, they are the same entry
   meet : (o x : Origin) (k : KeyName) (q : ℕ) → IsUsed (origin_uses lists o) k q →
       IsUsed (origin_uses lists x) k q → is_same o x ≡ 1
   meet (at_lane PoolLane place) x k q h m = absurd h

@@ -105,12 +105,13 @@ module _ (lane : LaneId) (p : ℕ) (lists : Lists) where
         callers_times (suc c) callers mss oss print.1,
       )
 
--- the number is 0 or 1, and if it is 1, P holds
+-- the number n is 0 or 1, and if it is 1, P holds
 pub record Once (n : ℕ) (P : Type 0) : Type 0 where
   pub most : n ≤ 1
   pub only : 1 ≤ n → P
 
--- if two numbers are 0 or 1, and not both 1, their sum is 0 or 1
+-- let `Once a P` and `Once b Q` hold, and let P and Q exclude each other. If R follows from P and from Q, then `Once n
+-- R` holds for the sum n of a and b
 once_or : (n a b : ℕ) (P Q R : Type 0) → n ≡ a + b → Once a P → Once b Q → (P → R) → (Q → R) → (P → Q → ⊥) → Once n R
 once_or n a b P Q R is first second left right both = elim (lt_or_le 0 a) [
   | inl some ↦ (elim (lt_or_le 0 b) [
@@ -131,7 +132,7 @@ module _ (c k i : ℕ) (lists : Lists) where
   abbrev this : Origin
   this = at_state c k i
 
-  -- the entry is one of these entries of a state
+  -- entry i of state k of caller c is one of the entries `own`
   record IsAmong (own : StateEntries) : Type 0 where
     caller : own.caller ≡ c
     state : own.state ≡ k

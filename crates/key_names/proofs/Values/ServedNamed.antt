@@ -36,7 +36,8 @@ use Rattle.key_names.specs.Keys.ServedNamed.{cpu_place_uses, LawfulServesNamed}
 use Rattle.key_names.proofs.Values.Named.{cpu_key_at, cpu_key_named, every_front}
 use Rattle.key_names.proofs.Values.HeldBytes.{entry_after, front_of}
 
--- if `key` and `call` name the key in use and its call key, then a read serves the bytes of its named spans
+-- let `key` name the key in use, and `call` the key that bytes 32 to 64 of its keystream make. Then a read serves the
+-- bytes of its named spans
 module _ (lists : Lists) (key call : KeyName) (used : List ℕ) (is : value_of lists key ≡ used)
     (next : value_of lists call ≡ keystream used 32 32) where
   user_named : (n : ℕ) (b : Bool) →
@@ -93,7 +94,7 @@ late_phase p q is other none = other (sym is ∙ none)
 early_late : early ≡ empty → ⊥
 early_late is = cc
 
--- if BaseKeyed holds and a draw fits, then the key in use at the draw has a name
+-- if BaseKeyed holds for the state s, and a draw may come in s (`BaseFits`), then the key in use at the draw has a name
 draw_keyed : (s : BaseState) (o : Option ℕ) (taken : Taken) → BaseKeyed s → BaseFits s (Draw o taken) →
     HasName (base_key_in_use (Draw o taken) s.key)
 draw_keyed s None taken keyed fits = keyed (late_phase s.phase early fits early_late)
@@ -150,13 +151,14 @@ module _ (lists : Lists) (lawful : LawfulBase lists.pool lists.base) where
   base_visit_named i Stall is = refl
   base_visit_named i Unstall is = refl
 
--- the fill was made from the key in use at its place, and this key has a name
+-- the fill f was made from the key in use at its place, and this key has a name
 module _ (lists : Lists) (c : ℕ) where
   record FillOk (f : Fill) : Type 0 where
     used_key : cpu_key_at lists c f.place ≡ f.key
     keyed : HasName f.key
 
-  -- if the CPU's generation is above 0, its key has a name. `FillOk` holds for each fill
+  -- in the state s of a CPU: if the generation is above 0, the key has a name; and `FillOk` holds for the last fill of
+  -- each width
   record CpuOk (s : CpuState) : Type 0 where
     keyed : 1 ≤ s.generation → HasName s.key
     fills : (w : ℕ) (f : Fill) → s.fills w ≡ Some f → FillOk f
@@ -189,8 +191,8 @@ module _ (lists : Lists) (c : ℕ) where
       same_fill_ok g f (ap (λ o. option_map_or (λ (x : Fill). x.place) o 0) is)
       (ap (λ o. option_map_or (λ (x : Fill). x.key) o None) is) (old g refl)
 
-  -- if CpuOk holds and a read fits, then the key in use at the read has a name. The same is true of an integer that
-  -- fills its batch
+  -- if CpuOk holds for the state s, and a read may come in s (`ReadFits`), then the key in use at the read has a name.
+  -- The same is true of an integer that fills its batch
   read_keyed : (s : CpuState) (look : ℕ) (refill : Option ℕ) → CpuOk s → ReadFits s look refill →
       HasName (call_or refill s.key)
   read_keyed s look None ok fits =
@@ -317,8 +319,8 @@ module _ (lists : Lists) (c : ℕ) where
         ∙ sym (append-nil (keystream (value_of lists key) (32 + width * f.count) width))
         ∙ ap (λ o. served_in lists (named_use served o (32 + width * f.count) width)) (sym good.keyed.1)
 
-    -- each visit of a CPU serves the bytes of the named spans that its entry serves, unless a state takes the visit as
-    -- a key
+    -- each visit of a CPU serves the bytes of the named spans that its entry serves, unless a vgetrandom state takes
+    -- the visit's read as a key
     pub cpu_visit_named : (k : ℕ) (e : CpuEntry) → slice_get es k ≡ Some e → is_rekeyed lists c k ≡ false →
         (cpu_visit lists c k e).serves ≡ served_in lists (cpu_place_uses lists c k e)
     cpu_visit_named k (Read look refill taken) is none = read_visit k look refill taken is none

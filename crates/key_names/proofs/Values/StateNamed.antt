@@ -12,7 +12,7 @@ use Rattle.key_names.specs.Lanes.Book.{Lists, state_list}
 use Rattle.key_names.specs.Keys.KeyInUse.{zero_key, value_of, cpu_call_value, refill_value, refill_value_from, state_value_step, state_value_after}
 use Rattle.key_names.proofs.Values.Named.{every_front}
 
--- how many of the entries are refills
+-- how many entries of a vgetrandom state's list are refills
 refills_in : List VEntry → ℕ
 refills_in [] = 0
 refills_in (Rekey cpu place ∷ es) = refills_in es
@@ -48,7 +48,7 @@ module _ (lists : Lists) (caller state : ℕ) where
   refill_value_at v (Serve pos len ∷ front) from rest = refill_value_at v front from rest
   refill_value_at v (Wipe ∷ front) from rest = refill_value_at zero_key front from rest
 
-  -- the key after a prefix of the list has the value of its name
+  -- the state's key after `front`, a prefix of the list, has the value of its name
   abbrev pub StateNamed : List VEntry → Type 0
   StateNamed front = (k : KeyName) → (state_after caller state front).key ≡ Some k →
       value_of lists k ≡ state_value_after lists front

@@ -111,7 +111,7 @@ module _ (lists : Lists) (caller k : ℕ) (below : k < 16) where
       (λ no by. vgetrandom_ends x n flags acts m h there means.looks fronts by)
       means.done_by
 
-  -- VreadEnds holds for a vread of this state, after these entries
+  -- if the call is a vread on state k, VreadEnds holds for it, with `x` as the replay of the entries before it
   abbrev pub CallEnds : Both → Call → CallMeaning → Type 0
   CallEnds x (alone event line) m = ⊤
   CallEnds x (vread_call n flags line acts) m = m.before.current ≡ k → VreadEnds n flags acts x m
@@ -168,7 +168,7 @@ module _ (lists : Lists) (caller k : ℕ) (below : k < 16) where
   abbrev start : Both
   start = record { named = state_start; bytes = state_bytes_start }
 
-  -- the names match the replay after each prefix of the state's list
+  -- if the list of state k is lawful, the names match the replay after each prefix of the list (`NamesTell`)
   pub front_tells : LawfulStateList (cpu_list lists) caller k (state_list lists caller k) → (pre post : List VEntry) →
       state_list lists caller k ≡ pre ++ post → batch.NamesTell lists caller k (after start pre)
   front_tells lawful pre post is =

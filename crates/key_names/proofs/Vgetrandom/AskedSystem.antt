@@ -13,7 +13,7 @@ use Rattle.key_names.specs.Callers.VreadSteps.{last_place, answer_with, answer_a
 use Rattle.key_names.proofs.Vgetrandom.CallsKeep.{match_cases}
 use Rattle.key_names.proofs.Vgetrandom.KeyTakes.{place_takes, answer_takes}
 
--- the host's last step is the system call with this answer
+-- the last of `steps` is a system call with this answer
 pub record EndsAsked (answer : SystemAnswer) (steps : List HostStep) : Type 0 where
   before : List HostStep
   n : ℕ

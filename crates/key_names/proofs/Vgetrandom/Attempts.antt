@@ -56,7 +56,8 @@ serve_point n c end wiped at_end s = record {
   attempt_is = refl;
 }
 
--- the steps of an attempt on a state whose key is current. The flags are true for the points that wipe the state
+-- the steps of an attempt on a state whose key is current. `at_start`, `at_serve` and `at_end` are true if the state is
+-- wiped at that point
 abbrev pub current_steps : ℕ → Bool → Bool → Bool → ℕ → List HostStep
 current_steps published at_start at_serve at_end end =
     publishes published ∷ at_point Start at_start ∷ serve_steps at_serve at_end end
@@ -79,12 +80,13 @@ current_attempt n c published end at_start at_serve at_end s current = record {
   };
 }
 
--- the state after its new key was read
+-- the state after its new key was read; `at_written` is true if the state was wiped at the point Written
 abbrev pub keyed_state : ℕ → List ℕ → Bool → VgetrandomState → VgetrandomState
 keyed_state published key at_written s =
     record (state_left at_written (record s { generation = published })) { key = key; pos = 96 }
 
--- the steps of an attempt that reads a key. The flags are true for the points that wipe the state
+-- the steps of an attempt that reads a key. `at_start`, `at_written`, `at_serve` and `at_end` are true if the state is
+-- wiped at that point
 abbrev pub keyed_steps : ℕ → List ℕ → Option CpuPlace → Bool → Bool → Bool → Bool → ℕ → List HostStep
 keyed_steps published key visit at_start at_written at_serve at_end end =
     publishes published ∷ at_point Start at_start ∷ at_point Written at_written

@@ -28,7 +28,8 @@ use Rattle.key_names.proofs.Uses.BatchBytes.{zeros_more}
 use Rattle.key_names.proofs.Vgetrandom.CopiesKeep.{Settled, Ready, ready, ready_start, may_start}
 use Rattle.key_names.proofs.Vgetrandom.CopiesKeep as copies
 
--- if `C` follows from each side of a choice, it follows from the choice
+-- let C follow from A when `b` is true, and from B when `b` is false. Then C follows from the choice between A and B by
+-- `b`
 pub match_cases : (A B C : Type 0) (b : Bool) → ((b ≡ true) → A → C) → ((b ≡ false) → B → C) → MatchBool b A B → C
 match_cases A B C true f g h = f refl h
 match_cases A B C false f g h = g refl h
@@ -52,7 +53,8 @@ module _ (caller state : ℕ) where
       (es : List VEntry) → Keeps After t es → Keeps Also t es
   keeps_weaker = copies.keeps_weaker caller state
 
-  -- the entries of an attempt, or of a call, keep the list in order, and afterwards the state is settled
+  -- the entries of an attempt, or of a call, keep the list in order, and afterwards the state matches its list
+  -- (`Settled`)
   abbrev pub AttemptKeeps : NamedState → Attempt → Type 0
   AttemptKeeps t attempt = Keeps (λ u. Settled u attempt.state) t attempt.entries
 
@@ -178,7 +180,7 @@ module _ (caller state : ℕ) where
       (record { same_pos = h.same_pos; within = h.within; expects = h.expects; zeros = h.zeros }))
       from
 
-  -- an attempt keeps the list of its state in order
+  -- if the state matches its list (`Settled`), an attempt to copy at least one byte keeps the list in order
   pub attempt_keeps : (n c : ℕ) → 1 ≤ n →
       (t : NamedState) (s : VgetrandomState) (steps : List HostStep) (attempt : Attempt) →
       IsAttempt n c s steps attempt → Settled t s → AttemptKeeps t attempt
@@ -264,7 +266,7 @@ module _ (caller state : ℕ) where
       (record { same_pos = h.same_pos; within = h.within; expects = h.expects; zeros = h.zeros }))))
       from
 
-  -- a vgetrandom call keeps the list of its state in order
+  -- if the state matches its list (`Settled`), a vgetrandom call keeps the list in order
   pub call_keeps : (n flags : ℕ) (t : NamedState) (s : VgetrandomState) (steps : List HostStep) (outcome : Outcome) →
       IsCall n flags s steps outcome → Settled t s → OutcomeKeeps t outcome
   call_keeps n flags t s steps outcome is h =
@@ -274,7 +276,7 @@ module _ (caller state : ℕ) where
       (λ good look. published_keeps n flags look.published t s look.rest outcome look.goes_on h)
       is
 
-  -- a wipe keeps the list of its state in order, and so does a copy without a call
+  -- if the state matches its list (`Settled`), a wipe keeps the list in order; below, so does a copy without a call
   pub wipe_keeps : (t : NamedState) (s : VgetrandomState) → Settled t s →
       Keeps (λ u. Settled u wiped_state) t (Wipe ∷ [])
   wipe_keeps t s h = record {
@@ -298,7 +300,8 @@ module _ (caller state : ℕ) where
   use_keeps t s (by_copy n) conforms h = local_keeps t s n conforms h
   use_keeps t s by_wipe conforms h = wipe_keeps t s h
 
-  -- any uses of the state, one after another, keep the list in order
+  -- if the state matches its list (`Settled`), uses of the state that conform (`StateUseConforms`), one after another,
+  -- keep the list in order
   pub uses_keep : (t : NamedState) (s : VgetrandomState) (uses : List StateUse) →
       LawfulFrom StateUseConforms state_after_use s uses →
       Settled t s → Keeps (λ v. Settled v (fold state_after_use s uses)) t (entries_of_uses s uses)
@@ -310,7 +313,7 @@ module _ (caller state : ℕ) where
       (λ v. Keeps (λ w. Settled w (fold state_after_use s (u ∷ uses))) v (entries_of_uses (state_after_use s u) uses))
       (λ v x. uses_keep v (state_after_use s u) uses conforms.1 x) t (entries_of_use s u) (use_keeps t s u conforms.0 h))
 
--- a list in order is lawful if its rekeys take reads of 32 bytes
+-- if a list is in order, and its rekeys take reads of 32 bytes, then it is lawful
 lawful_by_reads : (cpus : ℕ → List CpuEntry) (caller state : ℕ) (t : NamedState) (es : List VEntry) →
     LawfulFrom MayFollow (state_step caller state) t es → AllByRecursion (TakesRead cpus) es →
     LawfulFrom (StateMayCome cpus) (state_step caller state) t es

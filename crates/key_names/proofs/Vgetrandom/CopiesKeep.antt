@@ -24,7 +24,8 @@ copy_keeps_generation s c n = go (has_left s n)
     go true = refl
     go false = refl
 
--- the state matches its list: it has the same position, any entry may come next, and the served bytes are 0
+-- the state `s` matches its list, after which the names are `t`: the position is the same, any entry may come next, and
+-- the served bytes are 0
 pub record Settled (t : NamedState) (s : VgetrandomState) : Type 0 where
   pub same_pos : t.pos ≡ s.pos
   pub within : s.pos ≤ 96
@@ -55,7 +56,7 @@ module _ (caller state : ℕ) where
   abbrev step : NamedState → VEntry → NamedState
   step = state_step caller state
 
-  -- these entries may come one after another, and `After` holds for the state after them
+  -- the entries `es` may come one after another from the state `t` on, and `After` holds for the state after them
   pub record Keeps (After : NamedState → Type 0) (t : NamedState) (es : List VEntry) : Type 0 where
     pub lawful : LawfulFrom MayFollow (state_step caller state) t es
     pub after : After (fold (state_step caller state) t es)
@@ -72,7 +73,8 @@ module _ (caller state : ℕ) where
       Keeps After t es → Keeps Also t es
   keeps_weaker After Also weaker t es h = record { lawful = h.lawful; after = weaker _ h.after }
 
-  -- the entry for serving some bytes of the batch keeps the list in order
+  -- let any entry be allowed next, and let the batch have n more bytes. Then the entry for serving them keeps the list
+  -- in order
   pub serve_keeps : (t : NamedState) (s : VgetrandomState) (n : ℕ) → t.expected ≡ anything → t.pos ≡ s.pos →
       s.pos + n ≤ 96 →
       Keeps (λ u. (u.pos ≡ s.pos + n) × (u.expected ≡ anything)) t (serve_entry s.pos n)
@@ -104,7 +106,7 @@ module _ (caller state : ℕ) where
             (zero_first (suc r), refl);
       }
 
-  -- a copy of some bytes keeps the list in order
+  -- a copy of at least one byte keeps the list in order
   pub copy_keeps : (t : NamedState) (s : VgetrandomState) (c n : ℕ) → 1 ≤ n → Ready t s →
       Keeps (λ u. Settled u (state_after_copy s c n)) t (copy_entries s c n)
   copy_keeps t s c n some r = go (has_left s n) refl
@@ -112,7 +114,7 @@ module _ (caller state : ℕ) where
       fits : nat_le n (bytes_left s) ≡ true → s.pos + n ≤ 96
       fits is = let le : n ≤ 96 - s.pos = leb-true n (bytes_left s) is in let w = r.within in omega arith
 
-      -- the key is not new in this case, since a new key leaves no bytes in the batch
+      -- if the batch has n bytes left, the key is not new, since a new key leaves no bytes in the batch
       old : nat_le n (bytes_left s) ≡ true → (t.expected ≡ anything) × (t.pos ≡ s.pos) × StartsZero s.pos s.batch
       old is = elim r.expects [
         | inl batch ↦ batch

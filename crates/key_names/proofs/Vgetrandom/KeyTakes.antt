@@ -48,7 +48,7 @@ module _ (c p : ℕ) where
   answer_takes (failed errno) = 0
   answer_takes (read bytes visit) = place_takes visit
 
-  -- how many of the system calls have the read as their answer
+  -- how many of the host's system calls have the read as their answer
   abbrev pub step_takes : List HostStep → ℕ
   step_takes [] = 0
   step_takes (publishes g ∷ steps) = step_takes steps
@@ -167,7 +167,7 @@ module _ (c p : ℕ) where
   ending_takes (by_batch out) = 0
   ending_takes (by_system answer) = answer_takes answer
 
-  -- a call takes the read, as keys and as its own answer together, at most as often as the call's steps contain it
+  -- a call takes the read, as a key and as its own answer together, at most as often as the call's steps contain it
   pub record OutcomeBounded (steps : List HostStep) (outcome : Outcome) : Type 0 where
     pub is : takes outcome.entries + ending_takes outcome.ending ≤ step_takes steps
 
@@ -293,7 +293,8 @@ module _ (c p : ℕ) where
   answered_takes None ds = last_takes ds
   answered_takes (Some errno) ds = omega arith
 
-  -- if the effects show the host's steps, the steps contain the read at most as often as the effects contain the visit
+  -- if the effects of a line show the host's steps, the steps contain the read at place `p` of CPU `c` at most as often
+  -- as the effects contain the visit there
   pub shown_takes : (set : Setting) (steps : List HostStep) (ds : List Effect) → Shows set steps ds →
       step_takes steps ≤ effect_takes ds
   shown_takes set [] ds shows = omega arith
@@ -311,7 +312,7 @@ module _ (c p : ℕ) where
       let rest : step_takes steps ≤ effect_takes shows.rest = shown_takes set steps shows.rest shows.goes_on in
       omega arith
 
-  -- a call takes the read, as keys and as its own answer together, at most as often as the line's effects contain the
+  -- a call takes the read, as a key and as its own answer together, at most as often as the line's effects contain the
   -- visit
   pub call_takes : (set : Setting) (n flags : ℕ) (s : VgetrandomState) (steps : List HostStep) (outcome : Outcome)
       (ds : List Effect) →

@@ -42,7 +42,7 @@ KeyIs lists (failed errno) = ⊥
 KeyIs lists (read bytes None) = ⊥
 KeyIs lists (read bytes (Some at)) = bytes ≡ cpu_call_value lists at.cpu at.place
 
--- the published generations are not 0, and each key that was read is one that a CPU's visit handed over
+-- each generation that the steps publish is above 0, and each key that they read is one that a CPU's visit handed over
 abbrev pub Good : Lists → List HostStep → Type 0
 Good lists [] = ⊤
 Good lists (publishes g ∷ steps) = (1 ≤ g) × Good lists steps
@@ -56,7 +56,7 @@ good_append lists (at_point point wiped ∷ xs) ys h = good_append lists xs ys h
 good_append lists (system_call n flags answer ∷ xs) ys h = let m = good_append lists xs ys h.1 in ((h.0, m.0), m.1)
 
 module _ (lists : Lists) (caller k : ℕ) where
-  -- the names and the bytes of a state after some entries
+  -- the names and the bytes that a replay of some entries gives a vgetrandom state
   pub record Both : Type 0 where
     pub named : NamedState
     pub bytes : StateBytes

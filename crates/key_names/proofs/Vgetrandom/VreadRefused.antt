@@ -5,7 +5,7 @@ use Rattle.key_names.specs.Callers.Effects.{Effect, looked}
 use Rattle.key_names.specs.Callers.VreadSteps.{NeverFall, looks_of}
 use Rattle.key_names.specs.Callers.Meaning.{CallMeaning, VreadMeans}
 
--- the second look of a vread's line is not below the first
+-- if the effects of a vread's line begin with the looks a and b, then b is not below a
 pub looks_do_not_fall : (n flags a b : ℕ) (acts : List BoundAct) (m : CallMeaning) (rest : List Effect) →
     m.own.effects ≡ looked a ∷ looked b ∷ rest → VreadMeans n flags acts m → a ≤ b
 looks_do_not_fall n flags a b acts m rest effects means =

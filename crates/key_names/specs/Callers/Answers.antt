@@ -14,7 +14,7 @@ use Rattle.key_names.specs.Transcripts.SeenLine.{Shown, no_data, count, bytes_or
 use Rattle.key_names.specs.Callers.Effects.{Effect, looked, at_pool, at_base, at_cpu, nothing_there}
 use Rattle.key_names.specs.Kernel.Flags.{is_bad, is_nonblock, is_insecure}
 
--- whether the first step is a look that found the core not ready
+-- whether the first effect is a look that found generation 0, so the core was not ready
 abbrev pub found_unready : List Effect → Bool
 found_unready [] = false
 found_unready (looked g ∷ effects) = g == 0
@@ -40,7 +40,8 @@ system_answer flags effects =
     else (if found_unready effects && (is_nonblock flags && not (is_insecure flags)) then Again
     else (if was_interrupted effects then Interrupted else Done))
 
--- the answer of a tick: the timer fired if the tick extracted a root
+-- the answer of a tick: `Idle` if its only effect is a visit of the base. Otherwise the tick extracted a root, and the
+-- answer is `Fired`
 abbrev pub tick_answer : List Effect → Answer
 tick_answer (at_base v ∷ []) = Idle
 tick_answer _ = Fired
@@ -72,7 +73,7 @@ answer_of (Fork child) effects = Done
 answer_of (Prepare cpu) effects = Done
 answer_of (Online cpu) effects = Done
 answer_of (Vmfork word text) effects = Done
--- the next two rows are not used, since a vread or an act is never an event by itself
+-- the next two rows are not used: the meanings of vreads and acts give their answers and data (VreadMeans, ActMeans)
 answer_of (Vread len flags) effects = Done
 answer_of (Inside point act) effects = Done
 
@@ -83,13 +84,13 @@ effect_bytes (at_base v) = v.serves
 effect_bytes (at_cpu v) = v.serves
 effect_bytes nothing_there = []
 
--- a call serves the bytes of its last visit
+-- the bytes that a call with these effects serves: those of the last effect
 abbrev pub served_bytes : List Effect → List ℕ
 served_bytes [] = []
 served_bytes (effect ∷ []) = effect_bytes effect
 served_bytes (effect ∷ next ∷ effects) = served_bytes (next ∷ effects)
 
--- the pool's bits before the visit that reads them
+-- the data of a `bits` event: the credited bits of the pool before the event's only visit
 abbrev pub bits_read : List Effect → Shown
 bits_read (at_pool v ∷ []) = count v.before.bits
 bits_read _ = no_data
@@ -121,6 +122,6 @@ shown_of (Fork child) effects = no_data
 shown_of (Prepare cpu) effects = no_data
 shown_of (Online cpu) effects = no_data
 shown_of (Vmfork word text) effects = no_data
--- the next two rows are not used, since a vread or an act is never an event by itself
+-- the next two rows are not used: the meanings of vreads and acts give their answers and data (VreadMeans, ActMeans)
 shown_of (Vread len flags) effects = no_data
 shown_of (Inside point act) effects = no_data

@@ -1,4 +1,5 @@
--- A caller's order is its start and then its own steps. The looks of an order can be checked step by step, or in parts.
+-- A caller's order is its start (steps of its ancestors) and then its own steps. The looks of an order can be checked
+-- step by step, or in parts.
 use Rattle.std.specs.Prelude.{ℕ, ◌≡◌, ◌<◌, ⊤, Some, List, [], ◌∷◌, ◌++◌, length}
 use Rattle.std.specs.List.{fold}
 use Rattle.key_names.specs.declared.names.Step.{Step}
@@ -8,7 +9,7 @@ use Rattle.key_names.specs.Callers.Effects.{Effect}
 use Rattle.key_names.specs.Callers.History.{ancestors_steps, inherited_steps, caller_orders, calls_steps, through_visit}
 use Rattle.key_names.specs.Callers.History.{seen, seen_after, LookConforms, LooksConform}
 
--- the steps that come before a caller's own steps
+-- the steps that come before the own steps of caller c: those of its ancestors, up to the visit that forks the caller
 abbrev pub start_of : List (List Call) → ℕ → List Step
 start_of callers c = inherited_steps (ancestors_steps callers c) (parent_from c 0 callers)
 
@@ -34,8 +35,8 @@ LooksAreCounted = (reseeds : ℕ) (before effects : List Effect) →
     (LooksConform reseeds before effects → LooksFrom reseeds (seen before) effects)
     × (LooksFrom reseeds (seen before) effects → LooksConform reseeds before effects)
 
--- looks can be checked in two parts: first the front, and then the back. The check of the back starts from the greatest
--- generation seen by the end of the front
+-- the looks of `front` and `back` together can be checked in two parts: first those of `front`, and then those of
+-- `back`. The check of `back` starts from the greatest generation seen by the end of `front`
 abbrev pub LooksInParts : Type 0
 LooksInParts = (reseeds seen : ℕ) (front back : List Effect) →
     (LooksFrom reseeds seen (front ++ back) →

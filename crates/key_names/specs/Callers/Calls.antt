@@ -93,7 +93,7 @@ all_calls [] t = []
 all_calls (events ∷ callers) [] = calls_of events [] ∷ all_calls callers []
 all_calls (events ∷ callers) (lines ∷ t) = calls_of events lines ∷ all_calls callers t
 
--- the setting after a call. Only an event by itself changes the setting
+-- the setting after a call. Only an event that is a call by itself (`alone`) changes the setting
 abbrev pub setting_after_call : Setting → Call → Setting
 setting_after_call set (alone event line) = setting_after set event
 setting_after_call set (vread_call len flags line acts) = set

@@ -26,7 +26,7 @@ pub record PoolVisit : Type 0 where
   pub after : PoolState
   pub entry : PoolEntry
 
--- a visit of the base, and the bytes that the visit serves
+-- a visit of the base: its place, the base's state before and after it, its entry, and the bytes that it serves
 pub record BaseVisit : Type 0 where
   pub place : ℕ
   pub before : BaseState
@@ -34,7 +34,8 @@ pub record BaseVisit : Type 0 where
   pub entry : BaseEntry
   pub serves : List ℕ
 
--- a visit of a CPU, and the bytes that the visit serves
+-- a visit of a CPU: the CPU, the place, the CPU's state before and after the visit, the entry, and the bytes that the
+-- visit serves
 pub record CpuVisit : Type 0 where
   pub cpu : ℕ
   pub place : ℕ
@@ -105,7 +106,7 @@ cpu_visit lists c place e =
       serves = cpu_serves lists c before.fills used e;
     }
 
--- the effect of an entry, or nothing_there if there is no entry
+-- the effect that `effect` makes of an entry, or nothing_there if there is no entry
 abbrev pub effect_or : {E : Type 0} → (E → Effect) → Option E → Effect
 effect_or effect None = nothing_there
 effect_or effect (Some e) = effect e

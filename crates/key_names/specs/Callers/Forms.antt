@@ -37,7 +37,7 @@ pub record BaseOnly (entry : BaseEntry) (effects : List Effect) : Type 0 where
   pub effects_are : effects ≡ at_base base ∷ []
   pub is : base.entry ≡ entry
 
--- CROSS: the effects that follow a credit, by the threshold that it crosses
+-- CROSS: the effects that follow a credit, for each threshold that the credit can cross
 abbrev pub Cross : Setting → Crossing → List Effect → Type 0
 Cross set none effects = effects ≡ []
 Cross set ready effects = Rooted set (λ r. Reseeded r set.now) effects
@@ -47,7 +47,7 @@ Cross set early effects = Rooted set (λ r. Early (Some r)) effects ⊎ BaseOnly
 abbrev pub DrawForm : Setting → Taken → List Effect → Type 0
 DrawForm set taken effects = Rooted set (λ r. Draw (Some r) taken) effects ⊎ BaseOnly (Draw None taken) effects
 
--- CPUREAD without a refill
+-- CPUREAD without a refill: a look, and a read from the setting's CPU
 pub record PlainRead (set : Setting) (taken : Taken) (effects : List Effect) : Type 0 where
   pub look : ℕ
   pub cpu : CpuVisit
@@ -55,7 +55,7 @@ pub record PlainRead (set : Setting) (taken : Taken) (effects : List Effect) : T
   pub on : cpu.cpu ≡ set.cpu
   pub reads : cpu.entry ≡ CpuRead look None taken
 
--- CPUREAD with a refill
+-- CPUREAD with a refill: a look, a visit of the base that hands a key to the setting's CPU, and a read from that CPU
 pub record RefilledRead (set : Setting) (taken : Taken) (effects : List Effect) : Type 0 where
   pub look : ℕ
   pub base : BaseVisit
@@ -72,11 +72,12 @@ CpuReadForm set taken effects = PlainRead set taken effects ⊎ RefilledRead set
 abbrev pub Looked : (ℕ → List Effect → Type 0) → List Effect → Type 0
 Looked P effects = (g : ℕ) × (rest : List Effect) × (effects ≡ looked g ∷ rest) × P g rest
 
--- USER after its first look: a read from the base or the CPU
+-- USER after its first look, which found generation g: a read from the base, which needs g to be 0, or a read from the
+-- CPU
 abbrev pub ReadForm : Setting → Taken → ℕ → List Effect → Type 0
 ReadForm set taken g rest = ((g ≡ 0) × DrawForm set taken rest) ⊎ CpuReadForm set taken rest
 
--- a read that waited and was interrupted
+-- a read that waited and was interrupted: its effects are two visits of the base
 pub record WaitedInVain (effects : List Effect) : Type 0 where
   pub wait : BaseVisit
   pub interrupt : BaseVisit
@@ -84,7 +85,7 @@ pub record WaitedInVain (effects : List Effect) : Type 0 where
   pub waits : wait.entry ≡ Wait
   pub interrupts : interrupt.entry ≡ Interrupt
 
--- a read that waited and went on
+-- a read of n bytes that waited and went on: two visits of the base, and then a read from the CPU if n is not 0
 pub record Waited (set : Setting) (n : ℕ) (effects : List Effect) : Type 0 where
   pub wait : BaseVisit
   pub resume : BaseVisit
@@ -94,7 +95,7 @@ pub record Waited (set : Setting) (n : ℕ) (effects : List Effect) : Type 0 whe
   pub resumes : resume.entry ≡ Resume
   pub reads : MatchBool (n == 0) (rest ≡ []) (CpuReadForm set (User n) rest)
 
--- SYS after its first look, which found generation g
+-- SYS after its first look, which found generation g; `rest` are the effects after that look
 abbrev pub LookedForm : Setting → ℕ → ℕ → ℕ → List Effect → Type 0
 LookedForm set n flags g rest =
     MatchBool (g == 0 && not (is_insecure flags))
@@ -119,7 +120,7 @@ pub record PoolOnly (entry : PoolEntry) (effects : List Effect) : Type 0 where
   pub effects_are : effects ≡ at_pool pool ∷ []
   pub is : pool.entry ≡ entry
 
--- a fork whose thread could not be started
+-- a fork whose thread could not be started: three visits of the base, with the entries Fork, Stall and Unstall
 pub record Stalled (child : ℕ) (effects : List Effect) : Type 0 where
   pub fork : BaseVisit
   pub stall : BaseVisit
@@ -141,8 +142,8 @@ pub record DumpForm (set : Setting) (effects : List Effect) : Type 0 where
   pub dumps : dump.entry ≡ Dump set.now
   pub mixes : CreditForm set (Mix text bits) rest
 
--- an interrupt: its sample alone; or its sample, then a dump and the dump's mix, and then the effects of the threshold
--- that the mix crosses
+-- an interrupt: the visit for its sample alone; or that visit, then a dump and the dump's mix, and then the effects of
+-- the threshold that the mix crosses
 pub record IrqForm (set : Setting) (v1 v2 : ℕ) (effects : List Effect) : Type 0 where
   pub sample : CpuVisit
   pub rest : List Effect
@@ -158,7 +159,7 @@ pub record CpuOnly (cpu : ℕ) (entry : CpuEntry) (effects : List Effect) : Type
   pub on : visit.cpu ≡ cpu
   pub is : visit.entry ≡ entry
 
--- an integer from a batch, without a refill: a look, which is not the call's first, and the visit of the CPU
+-- an integer from a batch, without a refill: the call's second look, and the visit of the CPU
 pub record BatchForm (set : Setting) (width : ℕ) (effects : List Effect) : Type 0 where
   pub look : ℕ
   pub cpu : CpuVisit
@@ -167,7 +168,8 @@ pub record BatchForm (set : Setting) (width : ℕ) (effects : List Effect) : Typ
   pub on : cpu.cpu ≡ set.cpu
   pub serves : cpu.entry ≡ Int look None width filled
 
--- an integer from a batch, which is filled after a refill of the CPU
+-- an integer from a batch that is filled after a refill: the call's second look, the base's visit that hands over a
+-- key, and the CPU's visit
 pub record RefilledBatch (set : Setting) (width : ℕ) (effects : List Effect) : Type 0 where
   pub look : ℕ
   pub base : BaseVisit
@@ -177,22 +179,24 @@ pub record RefilledBatch (set : Setting) (width : ℕ) (effects : List Effect) :
   pub refills : base.entry ≡ Refill set.cpu cpu.place
   pub serves : cpu.entry ≡ Int look (Some base.place) width true
 
--- an integer. If the call's first look found the core not ready, a kernel read serves the integer. Otherwise a batch
--- serves it
+-- an integer, after the call's first look, which found generation g. If g is 0, the core is not ready, and a kernel
+-- read serves the integer. Otherwise a batch serves it
 abbrev pub IntForm : Setting → ℕ → ℕ → List Effect → Type 0
 IntForm set width g rest =
     (g ≡ 0) × (DrawForm set (Kernel width) rest ⊎ CpuReadForm set (Kernel width) rest)
     ⊎ (1 ≤ g) × (BatchForm set width rest ⊎ RefilledBatch set width rest)
 
--- a reseed, if the look found the core ready; otherwise nothing
+-- the effects after a look that found generation g: a reseed if the core is ready (g is at least 1), and otherwise none
 abbrev pub ReseedForm : Setting → ℕ → List Effect → Type 0
 ReseedForm set g rest = (g ≡ 0) × (rest ≡ []) ⊎ (1 ≤ g) × Rooted set (λ r. Reseeded r set.now) rest
 
--- a device sample: a word as 8 bytes and then bytes, without credit (`add_device_randomness`)
+-- the pool's entry of a device sample: it mixes the word as 8 bytes and then the text, and credits no bits
+-- (`add_device_randomness`)
 abbrev pub device_entry : ℕ → List ℕ → PoolEntry
 device_entry word text = Mix (to_le_bytes w64 word ++ text) 0
 
--- a device sample, and then a reseed (`add_vmfork_randomness`)
+-- a `vmfork` event: a device sample, a look, and then a reseed if the look found the core ready
+-- (`add_vmfork_randomness`)
 pub record VmforkForm (set : Setting) (word : ℕ) (text : List ℕ) (effects : List Effect) : Type 0 where
   pub pool : PoolVisit
   pub rest : List Effect
@@ -200,7 +204,7 @@ pub record VmforkForm (set : Setting) (word : ℕ) (text : List ℕ) (effects : 
   pub mixes : pool.entry ≡ device_entry word text
   pub reseeds : Looked (ReseedForm set) rest
 
--- the effects that the steps of an event by itself may have
+-- the effects that the steps of an event may have, if the event is a call by itself
 abbrev pub Form : Setting → Event → List Effect → Type 0
 Form set (At moment) effects = effects ≡ []
 Form set (On cpu) effects = effects ≡ []
@@ -228,10 +232,10 @@ Form set (Prepare cpu) effects = CpuOnly cpu Prepared effects
 Form set (Online cpu) effects = CpuOnly cpu Onlined effects
 Form set (Vmfork word text) effects = VmforkForm set word text effects
 Form set (Irq v1 v2) effects = IrqForm set v1 v2 effects
--- the next two rows are not used, since a vread or an act is never an event by itself
+-- the next two rows are not used: vreads and acts have VreadMeans and ActMeans
 Form set (Vread len flags) effects = ⊥
 Form set (Inside point act) effects = ⊥
 
--- the effects that the steps of the last line may have
+-- the effects that the steps of a caller's last line may have: one visit of the base, with the entry End
 abbrev pub EndForm : List Effect → Type 0
 EndForm effects = BaseOnly End effects

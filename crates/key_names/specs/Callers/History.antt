@@ -35,9 +35,9 @@ cut_after_visits [] = ([], [])
 cut_after_visits (step ∷ steps) =
     if is_mark step then (let cut = cut_after_visits steps in (step ∷ cut.0, cut.1)) else ([], step ∷ steps)
 
--- the steps of a vread from the third on, in two parts: the steps before the point Serve, and the steps after the point
--- End. If the vread's fifth step is a visit, the first part ends with the visits that begin there. Otherwise the first
--- part is empty
+-- cuts the steps of a vread, from its third step on, into two parts: the steps before the point Serve, and the steps
+-- after the point End. If the vread's fifth step is a visit, the first part ends with the visits that begin there.
+-- Otherwise the first part is empty
 abbrev pub cut_after_rekey : List Step → List Step × List Step
 cut_after_rekey steps =
     if option_map_or is_mark (slice_get steps 2) false
@@ -96,11 +96,12 @@ seen_after before (at_base v) = max before v.after.generation
 seen_after before (at_cpu v) = max before v.after.generation
 seen_after before nothing_there = before
 
--- the greatest generation that a caller has seen in these steps
+-- the greatest generation that a caller has seen after steps with these effects
 abbrev pub seen : List Effect → ℕ
 seen effects = fold seen_after 0 effects
 
--- a look finds a generation that is at least the greatest one its caller had seen, and at most the base's last one
+-- a look finds a generation that is at least `before`, the greatest that its caller had seen, and at most `reseeds`,
+-- the base's last generation
 abbrev pub LookConforms : ℕ → ℕ → Effect → Type 0
 LookConforms reseeds before (looked g) = (before ≤ g) × (g ≤ reseeds)
 LookConforms reseeds before (at_pool v) = ⊤

@@ -10,7 +10,7 @@ use Rattle.key_names.specs.Callers.Effects.{Effect, PoolVisit, CpuVisit, looked,
 use Rattle.key_names.specs.Kernel.FastPool.{FastPool, makes_due, dump_bytes, dump_bits}
 use Rattle.key_names.specs.Lanes.Samples.{MakesDue, IsDump}
 
--- the entry makes no dump due, and is not a dump
+-- let f be the CPU's fast pool before the entry. The entry makes no dump due, and is not a dump
 abbrev pub EntryIsQuiet : FastPool → CpuEntry → Type 0
 EntryIsQuiet f (Irq v1 v2 now) = makes_due f now ≡ false
 EntryIsQuiet f (Dump now) = ⊥
@@ -28,7 +28,7 @@ module _ (fast : ℕ → ℕ → FastPool) where
   IsQuiet (at_base v) = ⊤
   IsQuiet nothing_there = ⊤
 
-  -- an interrupt makes a dump due, and the dump and its mix follow
+  -- the effects begin with an interrupt that makes a dump due, the dump, and the dump's mix into the pool
   pub record Dumps (crossed : List Effect → Type 0) (effects : List Effect) : Type 0 where
     pub sample : CpuVisit
     pub dump : CpuVisit
@@ -48,7 +48,7 @@ IsMix (Input word kind code value now) = ⊥
 IsMix Bits = ⊥
 IsMix (Extract hw base_place) = ⊥
 
--- the effect is no visit of a CPU, and mixes nothing
+-- the effect is no visit of a CPU, and no visit of the pool that mixes bytes
 abbrev pub IsCrossing : Effect → Type 0
 IsCrossing (at_pool v) = IsMix v.entry → ⊥
 IsCrossing (at_cpu v) = ⊥

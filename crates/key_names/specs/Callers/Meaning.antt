@@ -36,7 +36,7 @@ pub record CallerState : Type 0 where
 abbrev pub caller_start : Setting → CallerState
 caller_start setting = record { setting = setting; states = replicate 16 wiped_state; current = 0 }
 
--- the vgetrandom state that a caller's reads use, and that `drop` wipes
+-- the vgetrandom state that a caller's vreads use, and that `drop` wipes
 abbrev pub current_state : CallerState → VgetrandomState
 current_state s = unwrap_or (slice_get s.states s.current) wiped_state
 
@@ -58,7 +58,7 @@ pub record CallMeaning : Type 0 where
   pub before : CallerState
   pub after : CallerState
 
--- the entries that an event by itself appends to the current state's list
+-- the entries that an event, if it is a call by itself, appends to the list of the current vgetrandom state
 abbrev pub event_entries : Event → List VEntry
 event_entries Drop = Wipe ∷ []
 event_entries (At moment) = []
@@ -89,13 +89,13 @@ event_entries (Online cpu) = []
 event_entries (Vmfork word text) = []
 event_entries (State number) = []
 
--- the caller's state after an event by itself
+-- the caller's state after an event that is a call by itself
 abbrev pub caller_after : CallerState → Event → CallerState
 caller_after s Drop = with_state s wiped_state
 caller_after s (State number) = record s { current = number }
 caller_after s event = record s { setting = setting_after s.setting event }
 
--- the meaning of an event by itself
+-- the meaning of an event that is a call by itself
 pub record AloneMeans (event : Event) (m : CallMeaning) : Type 0 where
   pub form : Form m.before.setting event m.own.effects
   pub answer : m.own.answer ≡ answer_of event m.own.effects
@@ -140,7 +140,7 @@ ActsMean set is_reached (bound ∷ acts) [] = ⊥
 ActsMean set is_reached (bound ∷ acts) (m ∷ ms) =
     MatchBool (is_reached bound) (ActMeans set bound.act m) (m ≡ unused_line) × ActsMean set is_reached acts ms
 
--- a copy out of the current state, after the line's only look
+-- a copy of n bytes out of the current state: the look before `rest` is the line's only look
 pub record ByLocalCopy (n : ℕ) (rest : List Effect) (m : CallMeaning) : Type 0 where
   pub no_more : rest ≡ []
   pub answer : m.own.answer ≡ Done
@@ -149,7 +149,7 @@ pub record ByLocalCopy (n : ℕ) (rest : List Effect) (m : CallMeaning) : Type 0
   pub entries : m.entries ≡ copy_entries (current_state m.before) 0 n
   pub after : m.after ≡ with_state m.before (state_after_copy (current_state m.before) 0 n)
 
--- a vgetrandom call on the current state
+-- a vgetrandom call for n bytes on the current state, with the acts inside it
 pub record ByVgetrandom (n flags : ℕ) (acts : List BoundAct) (m : CallMeaning) : Type 0 where
   pub steps : List HostStep
   pub outcome : Outcome
@@ -179,7 +179,7 @@ pub record VreadMeans (n flags : ℕ) (acts : List BoundAct) (m : CallMeaning) :
   pub done_by : MatchBool (tries_local n flags acts) (Looked (LocalOrCall n flags acts m) m.own.effects)
       (ByVgetrandom n flags acts m)
 
--- the meanings that a call may have
+-- the meaning m is allowed for the call
 abbrev pub Means : Call → CallMeaning → Type 0
 Means (alone event line) m = AloneMeans event m
 Means (vread_call len flags line acts) m = VreadMeans len flags acts m

@@ -31,7 +31,7 @@ entries_of_use s (by_call n flags steps outcome) = outcome.entries
 entries_of_use s (by_copy n) = serve_entry s.pos n
 entries_of_use s by_wipe = Wipe ∷ []
 
--- the entries that the uses leave, if the first use finds the state `s`
+-- the entries that some uses of a vgetrandom state leave in its list, if the state is `s` before the first use
 abbrev pub entries_of_uses : VgetrandomState → List StateUse → List VEntry
 entries_of_uses s [] = []
 entries_of_uses s (u ∷ uses) = entries_of_use s u ++ entries_of_uses (state_after_use s u) uses
@@ -44,7 +44,7 @@ pub record LeavesLawful (caller state : ℕ) (es : List VEntry) (s : VgetrandomS
       LawfulStateList cpu_list caller state es
   pub served_zero : take s.pos s.batch ≡ replicate s.pos 0
 
--- LeavesLawful holds for all uses of a wiped state, whatever the host does
+-- LeavesLawful holds after any uses of a wiped state, whatever the host does
 abbrev pub UsesLeaveLawfulLists : Type 0
 UsesLeaveLawfulLists = (caller state : ℕ) (uses : List StateUse) →
     LawfulFrom StateUseConforms state_after_use wiped_state uses →

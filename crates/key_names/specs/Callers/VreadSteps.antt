@@ -23,7 +23,8 @@ use Rattle.key_names.specs.Callers.Answers.{system_answer, served_bytes}
 use Rattle.key_names.specs.Kernel.Vgetrandom.{CpuPlace, SystemAnswer, read, failed, HostStep, publishes, system_call, at_point}
 use Rattle.key_names.specs.Kernel.Vgetrandom.{Ending, no_bytes, by_batch, by_system}
 
--- the published generation if a look finds this generation: the next number if the core is ready, and otherwise 0
+-- the generation that the host publishes if its look finds this generation: the next number if the core is ready, and
+-- otherwise 0
 abbrev pub published_by : ℕ → ℕ
 published_by zero = 0
 published_by (suc g) = suc (suc g)
@@ -41,7 +42,7 @@ last_place [] = None
 last_place (effect ∷ []) = place_of effect
 last_place (effect ∷ next ∷ effects) = last_place (next ∷ effects)
 
--- the error of an answer
+-- the error that an answer stands for, or None if the answer is no error
 abbrev pub errno_of : Answer → Option Errno
 errno_of Done = None
 errno_of Again = Some EAGAIN
@@ -60,7 +61,8 @@ answer_with (Some errno) effects = failed errno
 abbrev pub answer_after : ℕ → List Effect → SystemAnswer
 answer_after flags effects = answer_with (errno_of (system_answer flags effects)) effects
 
--- the effects begin with a system call of n bytes, and `Rest` holds for the effects after that call
+-- the effects begin with those of a system call for n bytes, which gives `answer`, and `Rest` holds for the effects
+-- after that call
 pub record SystemCallShows (set : Setting) (n flags : ℕ) (answer : SystemAnswer) (Rest : List Effect → Type 0)
     (effects : List Effect) : Type 0 where
   pub call : List Effect
@@ -70,7 +72,7 @@ pub record SystemCallShows (set : Setting) (n flags : ℕ) (answer : SystemAnswe
   pub answers : answer ≡ answer_after flags call
   pub goes_on : Rest rest
 
--- the line's effects show the steps of the host. A point has no step in the transcript
+-- the effects of a vread's line show the steps of the host. A point has no step in the transcript, and so no effect
 abbrev pub Shows : Setting → List HostStep → List Effect → Type 0
 Shows set [] effects = effects ≡ []
 Shows set (publishes g ∷ steps) effects = Looked (λ look rest. (g ≡ published_by look) × Shows set steps rest) effects
@@ -82,7 +84,7 @@ pub record PointReached : Type 0 where
   pub point : Point
   pub wiped : Bool
 
--- the points that the steps reach, in both attempts
+-- the points that the host's steps reach, in both attempts
 abbrev pub points_of : List HostStep → List PointReached
 points_of [] = []
 points_of (publishes g ∷ steps) = points_of steps
@@ -92,7 +94,7 @@ points_of (at_point point wiped ∷ steps) = record { point = point; wiped = wip
 abbrev pub is_start : PointReached → Bool
 is_start reached = is_same_point reached.point Start
 
--- the points of this list before its first Start, and the points from that Start on
+-- the points of a list before its first Start; below, the points from that Start on
 abbrev pub before_start : List PointReached → List PointReached
 before_start [] = []
 before_start (reached ∷ points) = if is_start reached then [] else reached ∷ before_start points
@@ -101,7 +103,8 @@ abbrev pub from_start : List PointReached → List PointReached
 from_start [] = []
 from_start (reached ∷ points) = if is_start reached then reached ∷ points else from_start points
 
--- the points of the first attempt, and those of the second. The first of all points is the Start of the first attempt
+-- the points of the first attempt; below, those of the second. The first of all points is the Start of the first
+-- attempt
 abbrev pub first_points : List PointReached → List PointReached
 first_points [] = []
 first_points (start ∷ points) = start ∷ before_start points
@@ -129,7 +132,8 @@ pub record WipesConform (acts : List BoundAct) (points : List PointReached) : Ty
 abbrev pub is_reached : List PointReached → BoundAct → Bool
 is_reached points bound = list_any (λ reached. is_same_point reached.point bound.point) (first_points points)
 
--- the answer and the data of a line, given how the line's call ended
+-- the answer for an error. The definitions after this one give the answer and the data of a line, from how its call
+-- ended
 abbrev pub answer_of_errno : Errno → Answer
 answer_of_errno EAGAIN = Again
 answer_of_errno EINVAL = Invalid
@@ -154,7 +158,7 @@ ending_shown no_bytes = no_data
 ending_shown (by_batch bytes) = bytes_or_none bytes
 ending_shown (by_system answer) = system_line_shown answer
 
--- the looks among some effects
+-- the generations that the looks among some effects found
 abbrev pub looks_of : List Effect → List ℕ
 looks_of [] = []
 looks_of (looked g ∷ effects) = g ∷ looks_of effects
@@ -163,7 +167,7 @@ looks_of (at_base v ∷ effects) = looks_of effects
 looks_of (at_cpu v ∷ effects) = looks_of effects
 looks_of (nothing_there ∷ effects) = looks_of effects
 
--- no number is below the one before it
+-- no number of the list is below the number before it
 abbrev pub NeverFall : List ℕ → Type 0
 NeverFall [] = ⊤
 NeverFall (a ∷ []) = ⊤

@@ -12,7 +12,7 @@ use Rattle.key_names.specs.Kernel.VgetrandomState.{VgetrandomState}
 abbrev pub bytes_left : VgetrandomState → ℕ
 bytes_left s = 96 - s.pos
 
--- how many whole blocks of the keystream a copy of n bytes needs, and how many bytes of a new batch it needs
+-- how many whole blocks of the keystream a copy of n bytes needs; below, how many bytes of a new batch it needs
 abbrev pub whole_blocks : VgetrandomState → ℕ → ℕ
 whole_blocks s n = (n - bytes_left s) / 64
 
@@ -29,7 +29,8 @@ copy_bytes s c n =
 abbrev pub state_of_same_batch : VgetrandomState → ℕ → VgetrandomState
 state_of_same_batch s n = record s { batch = with_zeros s.pos n s.batch; pos = s.pos + n }
 
--- the state with a batch and a key from block c on, and with r bytes of the batch served
+-- the state with a new batch and a new key, which are the key's keystream from block c on. The first r bytes of the new
+-- batch are served
 abbrev pub state_of_new_batch : VgetrandomState → ℕ → ℕ → VgetrandomState
 state_of_new_batch s c r = record s {
   batch = with_zeros 0 r (keystream s.key (64 * c) 96);
@@ -45,11 +46,11 @@ abbrev pub state_after_copy : VgetrandomState → ℕ → ℕ → VgetrandomStat
 state_after_copy s c n =
     if has_left s n then state_of_same_batch s n else state_of_new_batch s (c + whole_blocks s n) (new_batch_bytes s n)
 
--- the next block after a copy; a new batch and its key take two blocks
+-- the number of the next block after a copy that begins at block c; a new batch and its key take two blocks
 abbrev pub block_after_copy : VgetrandomState → ℕ → ℕ → ℕ
 block_after_copy s c n = if has_left s n then c else c + whole_blocks s n + 2
 
--- serving no bytes makes no entry
+-- the entry for serving the bytes of the batch from byte `pos` on; serving no bytes makes no entry
 abbrev pub serve_entry : ℕ → ℕ → List VEntry
 serve_entry pos zero = []
 serve_entry pos (suc len) = Serve pos (suc len) ∷ []

@@ -38,7 +38,7 @@ abbrev pub must_fill : ℕ → ℕ → Option Fill → Bool
 must_fill look width None = true
 must_fill look width (Some fill) = nat_le (96 / width) fill.count || not (look == fill.look)
 
--- the integer that a fill with this key serves after `count` integers
+-- the integer that a batch filled with this key serves after its first `count` integers
 abbrev pub batched_int : List ℕ → ℕ → ℕ → List ℕ
 batched_int key width count = keystream key (32 + width * count) width
 

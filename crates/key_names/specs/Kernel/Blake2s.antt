@@ -92,7 +92,7 @@ unfoldable pub compressed : List ℕ → Block → List ℕ
 compressed h block =
     folded h (rounds (message_words block.bytes) (start_vector h block.count block.is_last))
 
--- the text, after the key's block if there is a key (section 3.3)
+-- the bytes that are hashed: the key's block if there is a key, and then the text (section 3.3)
 abbrev pub message : Option (List ℕ) → List ℕ → List ℕ
 message None text = text
 message (Some key) text = key ++ replicate 32 0 ++ text

@@ -79,7 +79,7 @@ fast_step f Online = record f { count = 0 }
 abbrev pub fast_after : List CpuEntry → FastPool
 fast_after = fold fast_step fast_start
 
--- the 16 bytes that a dump gives
+-- the 16 bytes of a dump: the first two words of the fast pool
 abbrev pub dump_bytes : FastPool → List ℕ
 dump_bytes f = to_le_bytes w64 f.words.s0 ++ to_le_bytes w64 f.words.s1
 

@@ -84,14 +84,14 @@ pub record FromServe (n c : ℕ) (s : VgetrandomState) (steps : List HostStep) (
       (state_after_copy s c n) steps attempt_after
   pub attempt_is : attempt ≡ prefix_attempt (copy_entries s c n) attempt_after
 
--- the system call for a new key succeeded
+-- the system call for a new key succeeded with `key`, and the attempt goes on at the point Serve
 pub record Keyed (n c : ℕ) (key : List ℕ) (visit : Option CpuPlace) (s : VgetrandomState) (steps : List HostStep)
     (attempt : Attempt) : Type 0 where
   pub attempt_after : Attempt
   pub goes_on : AtPoint Serve (FromServe n c) (record s { key = key; pos = 96 }) steps attempt_after
   pub attempt_is : attempt ≡ prefix_attempt (rekey_entry visit) attempt_after
 
--- the system call for a new key failed. The key may then be any list of bytes
+-- the system call for a new key failed. The state's key may then be any list of bytes
 pub record NotKeyed (c : ℕ) (s : VgetrandomState) (steps : List HostStep) (attempt : Attempt) : Type 0 where
   pub key : List ℕ
   pub steps_are : steps ≡ []
@@ -143,22 +143,23 @@ pub record Outcome : Type 0 where
 abbrev pub prefix_outcome : List VEntry → Outcome → Outcome
 prefix_outcome entries outcome = record outcome { entries = entries ++ outcome.entries }
 
--- the system call has the call's own number of bytes and flags
+-- the host's only step left is a system call with the vgetrandom call's n and flags, and its answer ends the call
 pub record BySystem (n flags : ℕ) (s : VgetrandomState) (steps : List HostStep) (outcome : Outcome) : Type 0 where
   pub answer : SystemAnswer
   pub steps_are : steps ≡ system_call n flags answer ∷ []
   pub outcome_is : outcome ≡ record { ending = by_system answer; state = s; entries = [] }
 
--- the state when no call uses it any more
+-- the state after a call, which no longer uses it
 abbrev pub state_after_call : VgetrandomState → VgetrandomState
 state_after_call s = record s { in_use = false }
 
--- an attempt held, and its bytes are given out
+-- an attempt held, and the call ends with the bytes `out` that the attempt copied
 pub record ByBatch (out : List ℕ) (s : VgetrandomState) (steps : List HostStep) (outcome : Outcome) : Type 0 where
   pub steps_are : steps ≡ []
   pub outcome_is : outcome ≡ record { ending = by_batch out; state = state_after_call s; entries = [] }
 
--- the steps after an attempt. If the attempt ended as `outdated`, `Outdated` holds for these steps
+-- the steps after an attempt. If the attempt held, no step follows. If it is outdated, `Outdated` holds for the steps.
+-- If it got no new key, the call goes to the system
 abbrev pub AfterAttempt : ℕ → ℕ → (ℕ → VgetrandomState → List HostStep → Outcome → Type 0) → AttemptEnd → Attempt →
     List HostStep → Outcome → Type 0
 AfterAttempt n flags Outdated holds attempt steps outcome = ByBatch attempt.out attempt.state steps outcome
@@ -178,18 +179,18 @@ pub record AttemptAndRest (n flags : ℕ) (Outdated : ℕ → VgetrandomState �
   pub goes_on : AfterAttempt n flags Outdated attempt.end attempt rest outcome_after
   pub outcome_is : outcome ≡ prefix_outcome attempt.entries outcome_after
 
--- the steps after two attempts that did not hold
+-- the steps after two outdated attempts: the call goes to the system
 abbrev pub AfterBoth : ℕ → ℕ → ℕ → VgetrandomState → List HostStep → Outcome → Type 0
 AfterBoth n flags c s steps outcome = BySystem n flags (state_after_call s) steps outcome
 
--- the second attempt continues with the next block of the first
+-- the second attempt begins at block c, the next block after the first attempt
 abbrev pub SecondAttempt : ℕ → ℕ → ℕ → VgetrandomState → List HostStep → Outcome → Type 0
 SecondAttempt n flags c s steps outcome = AttemptAndRest n flags (AfterBoth n flags) (IsAttempt n c s) steps outcome
 
 abbrev pub FirstAttempt : ℕ → ℕ → VgetrandomState → List HostStep → Outcome → Type 0
 FirstAttempt n flags s steps outcome = AttemptAndRest n flags (SecondAttempt n flags) (IsAttempt n 0 s) steps outcome
 
--- the call asks for no bytes
+-- the call asks for no bytes, and ends without another step
 pub record ByNothing (s : VgetrandomState) (steps : List HostStep) (outcome : Outcome) : Type 0 where
   pub steps_are : steps ≡ []
   pub outcome_is : outcome ≡ record { ending = no_bytes; state = s; entries = [] }
@@ -210,7 +211,7 @@ pub record FromLook (n flags : ℕ) (s : VgetrandomState) (steps : List HostStep
   pub steps_are : steps ≡ publishes published ∷ rest
   pub goes_on : FromPublished n flags s published rest outcome
 
--- a call for n bytes with these flags on a state
+-- a vgetrandom call for n bytes with these flags on the state s. If the flags are bad, the call goes to the system
 abbrev pub IsCall : ℕ → ℕ → VgetrandomState → List HostStep → Outcome → Type 0
 IsCall n flags s steps outcome = MatchBool (is_bad flags) (BySystem n flags s steps outcome)
     (FromLook n flags s steps outcome)

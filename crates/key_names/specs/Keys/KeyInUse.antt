@@ -28,7 +28,7 @@ abbrev pub root_value_or : List PoolEntry → Option ℕ → List ℕ → List �
 root_value_or pool None value = value
 root_value_or pool (Some r) value = root_value pool r
 
--- the value of the key in use at an entry of the base
+-- the value of the key in use at the base's entry e; `value` is the value of the base's key before e
 abbrev pub base_value_in_use : List PoolEntry → BaseEntry → List ℕ → List ℕ
 base_value_in_use pool e value = root_value_or pool (root_of e) value
 
@@ -36,7 +36,7 @@ abbrev pub base_value_step : List PoolEntry → List ℕ → BaseEntry → List 
 base_value_step pool value e =
     if base_erases e then keystream (base_value_in_use pool e value) 0 32 else base_value_in_use pool e value
 
--- the value of the base's key after these entries
+-- the value of the base's key after the entries `base`
 abbrev pub base_value_after : List PoolEntry → List BaseEntry → List ℕ
 base_value_after pool base = fold (base_value_step pool) zero_key base
 
@@ -57,7 +57,7 @@ abbrev pub call_value_or : Lists → Option ℕ → List ℕ → List ℕ
 call_value_or lists None value = value
 call_value_or lists (Some b) value = base_call_value lists b
 
--- the value of the key in use at an entry of a CPU
+-- the value of the key in use at a CPU's entry e; `value` is the value of the CPU's key before e
 abbrev pub cpu_value_in_use : Lists → CpuEntry → List ℕ → List ℕ
 cpu_value_in_use lists e value = call_value_or lists (base_refill_of e) value
 
@@ -65,7 +65,7 @@ abbrev pub cpu_value_step : Lists → List ℕ → CpuEntry → List ℕ
 cpu_value_step lists value e =
     if cpu_erases e then keystream (cpu_value_in_use lists e value) 0 32 else cpu_value_in_use lists e value
 
--- the value of a CPU's key after these entries
+-- the value of a CPU's key after the entries `es`
 abbrev pub cpu_value_after : Lists → List CpuEntry → List ℕ
 cpu_value_after lists es = fold (cpu_value_step lists) zero_key es
 
@@ -82,7 +82,8 @@ cpu_used_at lists c k =
 abbrev pub cpu_call_value : Lists → ℕ → ℕ → List ℕ
 cpu_call_value lists c k = keystream (cpu_used_at lists c k) 32 32
 
--- the key that a refill from this block keeps
+-- the value of the key that a refill from block `from` keeps: the 32 bytes after the new batch in the keystream of the
+-- key `value`
 abbrev pub refill_value : List ℕ → ℕ → List ℕ
 refill_value value from = keystream value (64 * from + 96) 32
 

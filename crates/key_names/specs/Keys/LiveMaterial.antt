@@ -66,7 +66,7 @@ abbrev pub served_len : Lists → BatchHolder → ℕ
 served_len lists (cpu_batch c width) = batch_pos width ((cpu_end lists c).fills width)
 served_len lists (state_batch caller state) = (state_end lists caller state).pos
 
--- an entry that names a root replaces the base's key, and an entry that erases replaces the key in use
+-- the entry `e` replaces `key`: it names a root, and `key` is the base's key; or it erases, and `key` is the key in use
 abbrev pub BaseReplaces : KeyName → BaseState → BaseEntry → Type 0
 BaseReplaces key s e =
     (IsSome (root_of e) × (s.key ≡ Some key)) ⊎ (IsTrue (base_erases e) × (base_key_in_use e s.key ≡ Some key))
@@ -125,7 +125,7 @@ state_batch_step s Wipe = replicate 96 0
 abbrev pub state_bytes_step : Lists → StateBytes → VEntry → StateBytes
 state_bytes_step lists s e = record { key = state_value_step lists s.key e; batch = state_batch_step s e }
 
--- the batches that the replay of the lists gives
+-- the bytes of a holder's batch, as the replay of the lists gives them
 abbrev pub replayed_batch : Lists → BatchHolder → List ℕ
 replayed_batch lists (cpu_batch c width) =
     (fold (cpu_bytes_step lists c) cpu_bytes_start (cpu_list lists c)).batch width
@@ -134,7 +134,7 @@ replayed_batch lists (state_batch caller state) =
 
 -- the book is erased; `batch` gives the bytes of each batch
 pub record IsErased (lists : Lists) (batch : BatchHolder → List ℕ) : Type 0 where
-  -- a key that an entry replaced is live nowhere
+  -- no holder still has a key that an entry replaced
   pub none_replaced : (a b : KeyHolder) (key : KeyName) → live_key lists a ≡ Some key → WasReplaced lists b key → ⊥
   -- no two live keys have the same name
   pub keys_apart : (a b : KeyHolder) (key : KeyName) → live_key lists a ≡ Some key → live_key lists b ≡ Some key → a ≡ b
@@ -149,7 +149,7 @@ pub record IsErased (lists : Lists) (batch : BatchHolder → List ℕ) : Type 0 
   -- if a CPU's batch is not live, all its bytes are 0
   pub dead_zero : (c width : ℕ) → (cpu_end lists c).fills width ≡ None → batch (cpu_batch c width) ≡ replicate 96 0
 
--- the keys that the replay of the lists gives
+-- the value of a holder's key, as the replay of the lists gives it
 abbrev pub replayed_key : Lists → KeyHolder → List ℕ
 replayed_key lists base_key = base_value_after lists.pool lists.base
 replayed_key lists (cpu_key c) = cpu_value_after lists (cpu_list lists c)
@@ -172,7 +172,8 @@ LawfulIsErased = (lists : Lists) → LawfulBook lists → IsErased lists (replay
 abbrev pub LawfulHoldsNamed : Type 0
 LawfulHoldsNamed = (lists : Lists) → LawfulBook lists → HoldsNamed lists
 
--- a book with half-finished visits is disjoint and erased too
+-- a book with half-finished visits (HalfFinishedBook) is disjoint too, and erased if the batches are those of its
+-- replay
 abbrev pub HalfFinishedIsDisjoint : Type 0
 HalfFinishedIsDisjoint = (lists : Lists) → HalfFinishedBook lists → IsDisjoint lists
 

@@ -33,7 +33,7 @@ pub record Use : Type 0 where
 abbrev pub use_of : Purpose → KeyName → ℕ → ℕ → Use
 use_of purpose key from len = record { span = record { key = key; from = from; len = len }; purpose = purpose }
 
--- the uses of a key in use. A key without a name has no uses
+-- the uses that an entry makes of the key in use, given the key's name. A key without a name has no uses
 abbrev pub named_uses : Option KeyName → (KeyName → List Use) → List Use
 named_uses None uses_of = []
 named_uses (Some key) uses_of = uses_of key
@@ -74,7 +74,8 @@ abbrev pub batch_uses : ℕ → Option Fill → List Use
 batch_uses width None = []
 batch_uses width (Some fill) = named_use served fill.key (32 + width * fill.count) width
 
--- `rekeys` is true for each place where a vgetrandom state takes the read as its key
+-- the uses of an entry of CPU c in the state s. `rekeys` is true for each place where a vgetrandom state takes the read
+-- as its key
 abbrev pub cpu_uses_at : ℕ → (ℕ → Bool) → CpuState → CpuEntry → List Use
 cpu_uses_at c rekeys s (Read look refill taken) =
     named_uses (cpu_key_in_use (Read look refill taken) s.key)
@@ -95,7 +96,7 @@ state_uses_at s (Refill from) = named_use kept s.key (64 * from + 96) 32
 state_uses_at s (Serve pos len) = named_use served s.batch_key (64 * s.batch_from + pos) len
 state_uses_at s Wipe = []
 
--- the uses of some entries. The uses of each entry depend on the state before the entry
+-- the uses of a list of entries, one after another. The uses of each entry depend on the state before the entry
 abbrev pub uses_from : {S E : Type 0} → (S → E → List Use) → (S → E → S) → S → List E → List Use
 uses_from uses_at step s [] = []
 uses_from uses_at step s (e ∷ es) = uses_at s e ++ uses_from uses_at step (step s e) es
@@ -122,7 +123,7 @@ abbrev pub state_uses : Lists → ℕ → ℕ → List Use
 state_uses lists caller state =
     uses_from state_uses_at (state_step caller state) state_start (state_list lists caller state)
 
--- the uses for each number below a count
+-- the uses `uses_of n` for each number n below `count`, one after another
 abbrev pub uses_below : ℕ → (ℕ → List Use) → List Use
 uses_below count uses_of = flat_map uses_of (range_with_len 0 count)
 

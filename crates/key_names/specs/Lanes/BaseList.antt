@@ -172,7 +172,7 @@ timer_after early_boot Interrupt timer = timer
 timer_after early_boot Stall timer = timer
 timer_after early_boot Unstall timer = timer
 
--- the count of running callers has 32 bits and does not wrap
+-- the number of running callers after one more; the count has 32 bits and does not wrap
 abbrev pub one_more : ℕ → ℕ
 one_more n = min (2 ^ 32 - 1) (n + 1)
 
@@ -208,12 +208,12 @@ base_step s e = record {
 abbrev pub base_after : List BaseEntry → BaseState
 base_after = fold base_step base_start
 
--- the timer is pending and due
+-- the timer is pending, and is due at moment `now`
 abbrev pub IsDue : Option ℕ → ℕ → Type 0
 IsDue None now = ⊥
 IsDue (Some due) now = due ≤ now
 
--- the entry fits the phase, the timer, the generation and the count of running callers
+-- the entry fits the base's state: its phase, timer, generation and count of running callers
 abbrev pub BaseFits : BaseState → BaseEntry → Type 0
 BaseFits s (Early (Some root)) = s.phase ≡ empty
 BaseFits s (Early None) = s.phase ≢ empty
@@ -250,6 +250,6 @@ root_at base i = option_and_then root_of (slice_get base i)
 abbrev pub refill_at : List BaseEntry → ℕ → Option (ℕ × ℕ)
 refill_at base i = option_and_then refill_of (slice_get base i)
 
--- the generation before the entry at a place
+-- the base's generation before the entry at a place
 abbrev pub generation_at : List BaseEntry → ℕ → ℕ
 generation_at base i = (base_after (take i base)).generation

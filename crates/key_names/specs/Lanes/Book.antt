@@ -17,14 +17,14 @@ pub record Visit (E : Type 0) : Type 0 where
   pub who : Who
   pub entry : E
 
--- the visits of each lane, and the entries of each caller's states
+-- the visits of each lane, and the entries of each caller's vgetrandom states
 pub record Book : Type 0 where
   pub pool : List (Visit PoolEntry)
   pub base : List (Visit BaseEntry)
   pub cpus : List (List (Visit CpuEntry))
   pub callers : List (List (List VEntry))
 
--- the entries alone, without stamps and makers
+-- the lists of a book without the stamps and makers of the visits
 pub record Lists : Type 0 where
   pub pool : List PoolEntry
   pub base : List BaseEntry
@@ -90,7 +90,7 @@ pub record StatePlace : Type 0 where
   pub state : ℕ
   pub place : ℕ
 
--- the read that an entry of a state takes as its key
+-- the read (its CPU and place) that an entry of a vgetrandom state takes as the state's key
 abbrev pub rekey_in : Lists → StatePlace → Option (ℕ × ℕ)
 rekey_in lists at = rekey_at (state_list lists at.caller at.state) at.place
 

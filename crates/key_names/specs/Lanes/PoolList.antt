@@ -71,11 +71,11 @@ base_place_of (Extract hw base_place) = Some base_place
 abbrev pub extraction_at : List PoolEntry → ℕ → Option ℕ
 extraction_at pool p = option_and_then base_place_of (slice_get pool p)
 
--- the root that an extraction gives
+-- the root that an extraction in the state s gives, with the hardware's bytes `hw`
 abbrev pub root_of_extraction : PoolState → List ℕ → List ℕ
 root_of_extraction s hw = blake2s (Some (seed s)) (seed_block hw 1)
 
--- the root if the entry is an extraction, else no bytes
+-- the root that an entry gives if it is an extraction in the state s, and otherwise no bytes
 abbrev pub root_given : PoolState → Option PoolEntry → List ℕ
 root_given s (Some (Extract hw base_place)) = root_of_extraction s hw
 root_given s (Some (Mix text bits)) = []

@@ -47,7 +47,7 @@ abbrev pub ◌>>=◌ : {A B E : Type 0} → Result A E → (A → Result B E) �
 (Ok x) >>= f = f x
 (Err e) >>= f = Err e
 
--- ---- one field
+-- ---- reading one field
 
 -- the number that a field spells, if the number is below the limit
 abbrev pub number_below : ℕ → List ℕ → Option ℕ
@@ -79,7 +79,7 @@ hardware_words field = do
   words ← bytes field
   if length words == 32 then Ok words else Err BadHex
 
--- ---- the fields after a word
+-- ---- reading the fields after a line's word
 
 abbrev pub no_field : List (List ℕ) → Result (List (List ℕ)) FaultKind
 no_field [] = Ok []
@@ -99,7 +99,7 @@ four_fields (a ∷ b ∷ fields) = do
   Ok ((a, b), both)
 four_fields _ = Err UnknownWord
 
--- an event without fields, and events of one, two and four fields
+-- reads an event without fields; the definitions below read events of one, two and four fields
 abbrev pub plain : Event → List (List ℕ) → Result Event FaultKind
 plain event fields = do
   none ← no_field fields
@@ -134,7 +134,7 @@ point_of field = do
   n ← number 5 field
   ok_or (point_numbered n) BadNumber
 
--- an act without a field of its own, at a point
+-- reads an act without a field of its own, at the point whose number `point` spells
 abbrev pub act_at : List ℕ → InsideAct → Result Event FaultKind
 act_at point act = do
   p ← point_of point
@@ -146,7 +146,7 @@ vread_at point len = do
   n ← number 1048577 len
   Ok (Inside p (VreadAct n))
 
--- the word of the act decides the number of fields
+-- reads the fields of an `inside` line. The word of the act decides the number of fields
 abbrev pub inside_of : List (List ℕ) → Result Event FaultKind
 inside_of (point ∷ act ∷ []) =
     if bytes_eq act (codes "wipe") then act_at point Wipe
@@ -157,7 +157,7 @@ inside_of (point ∷ act ∷ len ∷ more) = do
   if bytes_eq act (codes "vread") then vread_at point field else Err UnknownWord
 inside_of _ = Err UnknownWord
 
--- a word that a later version added is unknown in a script of an earlier version
+-- `event` in a script of version `first` or later. In a script of an earlier version, the event's word is unknown
 abbrev pub since : ℕ → ℕ → Result Event FaultKind → Result Event FaultKind
 since first version event = if nat_le first version then event else Err UnknownWord
 
@@ -193,7 +193,7 @@ event_of version cpus words.Vmfork fields = since 2 version (binary (number (2 ^
 event_of version cpus words.State fields = since 3 version (unary (number 16) State fields)
 event_of version cpus words.End fields = Err UnknownWord
 
--- ---- one line
+-- ---- reading one line by itself
 
 abbrev pub all_words : List Word
 all_words =
@@ -231,8 +231,8 @@ said_by version cpus (first ∷ fields) =
 abbrev pub parts : ℕ → List ℕ → List (List ℕ)
 parts byte text = slice_split (λ b. b == byte) text
 
--- the content of a line, or its fault. A fault of kind 5 comes before any other. Otherwise the fault is that of the
--- leftmost bad field, of kind 6 or 7
+-- the content of a line, or its fault. A fault of kind 5 (UnknownWord) comes before any other. Otherwise the fault is
+-- that of the leftmost bad field, of kind 6 or 7 (BadNumber or BadHex)
 abbrev pub said : ℕ → ℕ → List ℕ → Result Said FaultKind
 said version cpus line = said_by version cpus (parts 32 line)
 
@@ -254,7 +254,7 @@ cpus_by version (first ∷ count ∷ []) =
     if bytes_eq first (codes "cpus") then cpus_from (number_below (most_cpus version + 1) count) else Err BadCpus
 cpus_by version _ = Err BadCpus
 
--- ---- a line after others
+-- ---- reading a line after the lines before it
 
 -- the script before a line: the finished blocks, and the events of the last block
 pub record Draft : Type 0 where
@@ -291,7 +291,7 @@ abbrev pub is_fork_from : ℕ → Event → Bool
 is_fork_from n (Fork child) = nat_le n child
 is_fork_from n _ = false
 
--- whether a number was forked and has no block
+-- whether a caller's number was forked and has no block
 abbrev pub has_orphan : Draft → Bool
 has_orphan d = list_any (list_any (is_fork_from (length (blocks_of d)))) (blocks_of d)
 
@@ -300,7 +300,7 @@ pub data Next : Type 0 where
   GoesOn : Draft → Next
   Ends : Next
 
--- the script after a line with this content, or the line's fault of kind 8 to 11
+-- the draft d after a line with this content, the end of the script, or the line's fault of kind 8 to 11
 abbrev pub after : Draft → Said → Result Next FaultKind
 after d (SaysEvent event) =
     if is_bad_fork d event then Err BadFork
@@ -316,12 +316,12 @@ after d SaysEnd = if has_orphan d then Err Unforked else Ok Ends
 abbrev pub after_line : Draft → List ℕ → Result Next FaultKind
 after_line d line = said d.version d.cpus line >>= after d
 
--- line 3 begins the block of caller 0
+-- the draft after line 3, which begins the block of caller 0
 abbrev pub first_block : ℕ → ℕ → Said → Result Draft FaultKind
 first_block version cpus (SaysCaller zero) = Ok (record { version = version; cpus = cpus; done = []; events = [] })
 first_block version cpus _ = Err BadCaller
 
--- ---- the whole text
+-- ---- reading the whole text
 
 abbrev pub at_line : {A : Type 0} → ℕ → Result A FaultKind → Result A ScriptFault
 at_line n (Ok x) = Ok x

@@ -22,7 +22,7 @@ pub record Script : Type 0 where
   pub cpus : ℕ
   pub callers : List (List Event)
 
--- ---- its text
+-- ---- the text of a script
 
 abbrev pub event_word : Event → Word
 event_word (At moment) = words.At
@@ -99,7 +99,7 @@ block_lines c [] = []
 block_lines c (events ∷ callers) = (codes "caller" ∷ decimal c ∷ [])
     ∷ (map event_fields events ++ block_lines (suc c) callers)
 
--- the fields of each line
+-- the lines of a script, each as the list of its fields
 abbrev pub script_lines : Script → List (List (List ℕ))
 script_lines s =
     (codes "rngscript" ∷ decimal s.version ∷ []) ∷ (codes "cpus" ∷ decimal s.cpus ∷ [])
@@ -108,7 +108,7 @@ script_lines s =
 abbrev pub script_text : Script → List ℕ
 script_text s = lined (map spaced (script_lines s))
 
--- ---- which scripts there are
+-- ---- which scripts are well formed
 
 -- the most CPUs that a script of a version may have
 abbrev pub most_cpus : ℕ → ℕ
@@ -208,7 +208,7 @@ acts_after waiting (Inside point act) = waiting + 1
 acts_after waiting (Vread len flags) = 0
 acts_after waiting _ = waiting
 
--- at most 8 acts wait at any time
+-- at most 8 acts wait for a vread at any time; `waiting` is the number of waiting acts before the events
 abbrev pub FewActs : ℕ → List Event → Type 0
 FewActs waiting [] = ⊤
 FewActs waiting (event ∷ events) = (acts_after waiting event ≤ 8) × FewActs (acts_after waiting event) events
@@ -226,7 +226,7 @@ pub record WellFormed (s : Script) : Type 0 where
   pub reads : sum_by (sum_by bytes_read) s.callers ≤ 16777216
   pub text : length (script_text s) ≤ 16777216
 
--- the text is the script's, and the script is well formed
+-- the script s is well formed, and the text is the text of s
 pub record IsScript (s : Script) (text : List ℕ) : Type 0 where
   pub well_formed : WellFormed s
   pub spelt : text ≡ script_text s

@@ -30,11 +30,11 @@ lane_text Pool = codes "p"
 lane_text Base = codes "b"
 lane_text (Cpu cpu) = codes "c" ++ decimal cpu
 
--- a visit of a lane, at its place and stamp
+-- the text of a visit: its lane, its place and its stamp
 abbrev pub mark_text : Mark → List ℕ
 mark_text mark = lane_text mark.lane ++ codes ":" ++ decimal mark.place ++ codes "@" ++ decimal mark.stamp
 
--- a look at the generation word, or a visit
+-- the text of a step: a look at the generation word, or a visit
 unfoldable pub step_text : Step → List ℕ
 step_text (Look generation) = codes "~" ++ decimal generation
 step_text (Visit mark) = mark_text mark
@@ -49,7 +49,7 @@ shown_text no_data = codes "-"
 shown_text (bytes shown) = encode_lower shown
 shown_text (count n) = decimal n
 
--- a line without its line feed
+-- the text of a line, without its line feed
 unfoldable pub line_text : SeenLine → List ℕ
 line_text line = spaced (
     (decimal line.caller ++ codes "." ++ decimal line.event) ∷ word_text line.word ∷ answer_text line.answer

@@ -29,7 +29,7 @@ pub record LineIs (c n : ℕ) (word : Word) (line : SeenLine) : Type 0 where
   pub event : line.event ≡ n
   pub word_is : line.word ≡ word
 
--- a line for each event in order, and then the last line; n is the number of the first event
+-- caller c has a line for each event, in order, and then the line of its end; n is the number of the first event
 abbrev pub LinesFit : ℕ → ℕ → List Event → List SeenLine → Type 0
 LinesFit c n [] [] = ⊥
 LinesFit c n [] (line ∷ []) = LineIs c n EndWord line
@@ -56,14 +56,14 @@ pub record MarkBy : Type 0 where
   pub mark : Mark
   pub who : Who
 
--- the marks of a line; i is the number of the first step
+-- the marks among the steps of a line of caller c and event n; i is the number of the first step
 abbrev pub marks_from : ℕ → ℕ → ℕ → List Step → List MarkBy
 marks_from c n i [] = []
 marks_from c n i (Look g ∷ steps) = marks_from c n (suc i) steps
 marks_from c n i (Marked mark ∷ steps) =
     record { mark = mark; who = record { caller = c; event = n; step = i } } ∷ marks_from c n (suc i) steps
 
--- the marks of one line, and then of all lines of all callers
+-- the marks of one line; below, the marks of all lines of all callers
 abbrev pub line_marks : SeenLine → List MarkBy
 line_marks line = marks_from line.caller line.event 0 line.steps
 
@@ -136,13 +136,13 @@ EachOfCall P (vread_call len flags line acts) m = P line m.own × EachAct P acts
 EachOfCall P (unbound bound) m = P bound.line m.own
 EachOfCall P (ending line) m = P line m.own
 
--- P holds for each line and its meaning
+-- P holds for each line of a caller's calls and that line's meaning
 abbrev pub EachLine : (SeenLine → LineMeaning → Type 0) → List Call → List CallMeaning → Type 0
 EachLine P [] [] = ⊤
 EachLine P (call ∷ calls) (m ∷ ms) = EachOfCall P call m × EachLine P calls ms
 EachLine P _ _ = ⊥
 
--- the entries that these calls append to the list of vgetrandom state k
+-- the entries that calls with the meanings `ms` append to the list of vgetrandom state k
 abbrev pub entries_of_state : ℕ → List CallMeaning → List VEntry
 entries_of_state k [] = []
 entries_of_state k (m ∷ ms) = (if m.before.current == k then m.entries else []) ++ entries_of_state k ms
@@ -202,7 +202,7 @@ pub record IsTranscriptBy (script : Script) (t : List (List SeenLine)) (book : B
 abbrev pub IsTranscript : Script → List (List SeenLine) → Type 0
 IsTranscript script t = (book : Book) × (ms : List (List CallMeaning)) × IsTranscriptBy script t book ms
 
--- the clauses in their order. Clause 1, before these, is the grammar of the text
+-- the clauses of a lawful transcript, in their order. Clause 1, before these, is the grammar of the text
 pub data Clause : Type 0 where
   lines_clause marks_clause forms_clause answers_clause data_clause looks_clause : Clause
 

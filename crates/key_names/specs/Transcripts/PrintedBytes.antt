@@ -20,14 +20,14 @@ pub data Origin : Type 0 where
   at_lane : LaneId → ℕ → Origin
   at_state : ℕ → ℕ → ℕ → Origin
 
--- the uses of the entry
+-- the uses of keys' bytes by the entry that an origin gives
 abbrev pub origin_uses : Lists → Origin → List Use
 origin_uses lists (at_lane lane place) = place_uses lists lane place
 origin_uses lists (at_state caller state place) =
     let es = state_list lists caller state in
     uses_or (state_uses_at (state_after caller state (take place es))) (slice_get es place)
 
--- the uses of several entries, one after another
+-- the uses of keys' bytes by several entries, one after another
 abbrev pub origins_uses : Lists → List Origin → List Use
 origins_uses lists origins = flat_map (origin_uses lists) origins
 
@@ -74,7 +74,7 @@ pub record LinePrints (lists : Lists) (own : StateEntries) (line : SeenLine) (or
   pub by : PrintsBy own line.steps origins
   pub shown : bytes_in line.shown ≡ served_in lists (origins_uses lists origins)
 
--- the lines of a call, the call's own first
+-- the lines of a call: its own line first, and then those of the acts inside it
 abbrev pub call_lines : Call → List SeenLine
 call_lines (alone event line) = line ∷ []
 call_lines (vread_call len flags line acts) = line ∷ map (λ (bound : BoundAct). bound.line) acts
@@ -103,7 +103,7 @@ CallersPrint lists c (calls ∷ callers) (ms ∷ mss) (os ∷ oss) =
     CallsPrint lists c [] calls ms os × CallersPrint lists (suc c) callers mss oss
 CallersPrint lists c _ _ _ = ⊥
 
--- the entries of all lines
+-- the entries whose bytes are printed, for all lines of all callers
 abbrev pub all_origins : List (List (List (List Origin))) → List Origin
 all_origins oss = flat_map (flat_map (flat_map (λ os. os))) oss
 

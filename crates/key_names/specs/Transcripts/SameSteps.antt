@@ -9,7 +9,7 @@ use Rattle.key_names.specs.Transcripts.IsTranscript.{MadeBook}
 abbrev pub bare : SeenLine → SeenLine
 bare line = record line { answer = Done; shown = no_data }
 
--- the lines are the same except for answers and data
+-- the lines of t and u are the same except for answers and data
 abbrev pub SameSteps : List (List SeenLine) → List (List SeenLine) → Type 0
 SameSteps t u = map (map bare) t ≡ map (map bare) u
 

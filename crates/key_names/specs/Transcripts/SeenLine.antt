@@ -46,7 +46,7 @@ seen_line kept steps line = record {
 abbrev pub seen_lines : List ℕ → List Step → List Line → List SeenLine
 seen_lines kept steps lines = map (seen_line kept steps) lines
 
--- the bytes that a line shows
+-- the bytes in the data of a line, and no bytes if the data are of another kind
 abbrev pub bytes_in : Shown → List ℕ
 bytes_in (bytes shown) = shown
 bytes_in _ = []

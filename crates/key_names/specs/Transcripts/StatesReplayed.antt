@@ -26,7 +26,7 @@ caller_end s (m ∷ ms) = caller_end m.after ms
 abbrev pub HasName : Option KeyName → Type 0
 HasName key = (name : KeyName) × (key ≡ Some name)
 
--- the key has a name. The batch's key has a name too, unless the batch is used up
+-- the state's key has a name. The key of its batch has a name too, unless the batch is used up
 abbrev pub IsNamed : NamedState → Type 0
 IsNamed t = HasName t.key × ((t.pos ≡ 96) ⊎ HasName t.batch_key)
 
@@ -40,10 +40,10 @@ pub record IsReplayed (lists : Lists) (caller k : ℕ) (es : List VEntry) (s : V
 
 -- each of a caller's sixteen states matches the replay of its list
 pub record StatesReplayed (lists : Lists) (caller : ℕ) (setting : Setting) (ms : List CallMeaning) : Type 0 where
-  -- after any number of the caller's calls, the state matches the replay of its entries so far
+  -- after the caller's first j calls, for any j, state k matches the replay of its entries so far
   pub between : (k j : ℕ) → k < 16 → IsReplayed lists caller k (entries_of_state k (take j ms))
       (state_number k (caller_end (caller_start setting) (take j ms)))
-  -- at the end, the state matches the replay of its list in the book. The laws of lawful books apply to this list
+  -- after all calls, state k matches the replay of its list in the book. The laws of lawful books apply to this list
   pub ends : (k : ℕ) → k < 16 → IsReplayed lists caller k (state_list lists caller k)
       (state_number k (caller_end (caller_start setting) ms))
 

@@ -17,7 +17,7 @@ abbrev pub BookIsUnique : Type 0
 BookIsUnique = (script : Script) (t : List (List SeenLine)) (one other : MadeBook script t) →
     (one.book ≡ other.book) × (one.meanings ≡ other.meanings)
 
--- if a clause is the first that fails, then no other clause is, and the transcript is not lawful
+-- if clause c is the first that fails, then no other clause is the first that fails, and the transcript is not lawful
 abbrev pub FirstFailIsUnique : Type 0
 FirstFailIsUnique = (script : Script) (t : List (List SeenLine)) (c : Clause) → FirstFails script t c →
     ((d : Clause) → FirstFails script t d → c ≡ d) × (¬ IsTranscript script t)
