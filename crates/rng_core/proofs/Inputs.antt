@@ -1,4 +1,4 @@
--- An input event changes the pool and its timer as one step of the pool's list (`pool_step`) does.
+-- An input event (`add_input_randomness`) changes the pool and its timer as `pool_step` does for the event's entry.
 use Rattle.std.proofs.Common.{◌≡◌, ◌≢◌, ℕ, ◌<◌, ◌≤◌, List, sym, ap, ◌∙◌, subst, arith}
 use Rattle.key_names.specs.declared.entries.PoolEntry.TheVariants.{Input}
 use Rattle.key_names.specs.Kernel.InputTimer.{InputTimer, input_timer_after, timer_bits}
@@ -29,7 +29,7 @@ module _ (s : PoolState) (word kind code value now : ℕ) (before between : Pool
   uncredited : between.bits ≡ s.bits
   uncredited = m.mixes.credited ∙ credit-none s.bits m.stood.pool.capped
 
-  -- a full pool gets no credit
+  -- if the pool is full (256 bits or more), the event credits nothing
   pub untimed : 256 ≤ between.bits → InputConforms between kept (pool_step s (Input word kind code value now))
   untimed full = let full' : 256 ≤ s.bits = (let u = uncredited in omega arith) in let e =
       pool_step-untimed s word kind code value now differs full' in record {

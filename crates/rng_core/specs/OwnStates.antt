@@ -64,7 +64,7 @@ steps_of (by_vread_inside n flags s t answer shown set l m asks outcomes k) = k.
 steps_of (by_vread_local n flags s t out set l m k) = looked k.found ∷ []
 steps_of (by_wipe s) = []
 
--- some pass of the table knows everything that the caller knew
+-- some pass of the table knows everything that the view `w` knows
 pub record IsKnown (s : St) (w : View) : Type 0 where
   pub number : ℕ
   pub view : View
@@ -84,7 +84,7 @@ abbrev pub Follow : VgetrandomState → List OwnUse → Type 0
 Follow s [] = ⊤
 Follow s (u ∷ us) = (before_use u ≡ s) × Follow (after_use u) us
 
--- the state after these uses, and below the entries that these uses leave
+-- the state after the uses of a list, which begin with the state `s`. `entries_left`: the entries that these uses leave
 abbrev pub after_uses : VgetrandomState → List OwnUse → VgetrandomState
 after_uses s [] = s
 after_uses s (u ∷ us) = after_uses (after_use u) us

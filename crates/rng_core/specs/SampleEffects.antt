@@ -11,7 +11,7 @@ use Rattle.key_names.specs.Lanes.PoolList.{crossing}
 use Rattle.lane_table.specs.declared.view.Visit.{Visit}
 use Rattle.lane_table.specs.Meaning.{replay}
 
--- a CPU's fast pool before a place of its list
+-- the fast pool of CPU `cpu` before the visit at `place` of the CPU's list
 abbrev pub fast_in : (ℕ → List Visit) → ℕ → ℕ → FastPool
 fast_in visits cpu place = (replay (take place (visits (cpu + 2)))).cpu.fast
 
