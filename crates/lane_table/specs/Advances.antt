@@ -72,7 +72,7 @@ Climbs low (stamp ∷ stamps) high = (low < stamp) × Climbs stamp stamps high
 abbrev pub floor : View → ℕ
 floor v = max v.seen (replay (known_of v 1)).base.generation
 
--- the generation in a model of the base or of a CPU; in a model of the pool it is 0
+-- the generation in a lane's model (its value in the proofs): that of the base or of a CPU; for the pool it is 0
 abbrev pub generation_of : Model → ℕ
 generation_of s = max s.base.generation s.cpu.cpu.generation
 

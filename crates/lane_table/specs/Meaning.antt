@@ -1,6 +1,7 @@
 -- The meaning of a lane's list of visits: the lane's value after the visits, the key that each visit hands on, and the
 -- entries that may come next. The list alone determines all of it, since each visit includes the key that it received.
--- A lane's model has a part for each kind of lane, and an entry changes the part of its own kind.
+-- A lane's model (its value in the proofs) has a part for each kind of lane, and an entry changes the part of its own
+-- kind.
 use Rattle.std.specs.Prelude.{◌≡◌, ℕ, suc, ◌+◌, ◌/◌, ◌<◌, ◌≤◌, ◌==◌, ⊤, List, [], Option, Some, None, replicate, slice_index_or, if◌then◌else◌}
 use Rattle.std.specs.List.{fold}
 use Rattle.key_names.specs.declared.names.Who.{Who}
@@ -110,11 +111,11 @@ base_after (Pool e) got b = b
 base_after (Base e) got b = base.after_entry e got.key b
 base_after (Cpu e) got b = b
 
--- a CPU's generator as the base's refill makes it
+-- a CPU's generator after a refill: the key and the generation that the base hands over
 abbrev pub generator_of : Handed → CpuValue
 generator_of got = record { key = got.key; generation = got.generation }
 
--- the value of the key in use at an entry of a CPU
+-- the key in use at an entry of a CPU: the key that the entry's refill gives, or else the CPU's own
 abbrev pub cpu_used : CpuEntry → Handed → CpuValue → List ℕ
 cpu_used e got c = (refilled (base_refill_of e) (generator_of got) c).key
 
@@ -146,11 +147,11 @@ made_of s e got = record {
   least = least_after (after_of e) s.least;
 }
 
--- the key that an erasure hands on
+-- the key that an erasure of the key `used` hands on: bytes 32 to 64 of its keystream
 abbrev pub call_key : List ℕ → List ℕ
 call_key used = keystream used 32 32
 
--- the key that an entry hands on: of the pool, and then of the base and of a CPU
+-- the key that an entry of the pool hands on. Below, the same for the base and for a CPU
 abbrev pub pool_gives : PoolState → PoolEntry → Handed
 pool_gives s (Mix text bits) = nothing
 pool_gives s (Input word kind code value now) = nothing
@@ -255,7 +256,7 @@ batch_of width (Some fill) bytes = record { bytes = bytes; position = fill.count
 abbrev pub batch_at : ℕ → CpuModel → BatchValue
 batch_at width c = batch_of width (c.fills width) (c.bytes width)
 
--- each part of a CPU's value equals the model's, including the zeros of the batches
+-- each part of a CPU's value equals the model's. The batches are equal in the zeros that replace served bytes, too
 pub record CpuLaneConforms (lane : CpuLane) (c : CpuModel) : Type 0 where
   pub cpu : lane.cpu ≡ c.cpu
   pub b8 : lane.b8 ≡ batch_at 1 c

@@ -28,7 +28,7 @@ generation_word s = slice_index_or s.words 0 0
 abbrev pub IsView : St → ℕ → View → Type 0
 IsView s j v = get_elem? s.views j ≡ some v
 
--- a pass with this stage has this ticket
+-- a pass with the given stage has the ticket `t`
 abbrev pub HasTicket : TicketStage → ℕ → Type 0
 HasTicket Away t = ⊥
 HasTicket (Queued u) t = u ≡ t

@@ -19,7 +19,7 @@ use int_batch::Batch;
 use sample_credit::{FastPool, InputTimer};
 use std::alloc::{AllocError, Global};
 
-// A lane in its starting state.
+// The value of a lane at the start, before its first visit.
 fn start_state(lane: usize) -> LaneState
     ensures { (first : ℕ) → Replays lane first [] (record { state = result; place = 0; stamp = first }) }
 {

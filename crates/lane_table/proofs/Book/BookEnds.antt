@@ -26,7 +26,7 @@ continues_before lanes v w visits sized grows c = record {
   closed = c.closed;
 }
 
--- at any moment the known lists of a pass are half-finished lanes
+-- at any moment the lists that a pass with the view `v` knows make half-finished lanes
 module _ (v : View) (callers : StateLists) (low : 2 ≤ length v.lanes) (ok : Consistent v) where
   pub known_lanes : ClosedLanes (length v.lanes) (known_of v)
   known_lanes = record { low = low; closed = ok.closed; lawful = ok.lawful }
@@ -34,7 +34,7 @@ module _ (v : View) (callers : StateLists) (low : 2 ≤ length v.lanes) (ok : Co
   pub known_half_finished : HalfFinishedLanes (book_lists (length v.lanes) (known_of v) callers)
   known_half_finished = half_finished (length v.lanes) (known_of v) callers known_lanes ok.half
 
--- at the end the known lists of a pass are lawful lanes
+-- at the table's end (`Ended`) the lists that a pass with the view `v` knows make lawful lanes
 module _ (v : View) (callers : StateLists) (low : 2 ≤ length v.lanes) (ended : Ended (length v.lanes) v) where
   abbrev lanes : ℕ
   lanes = length v.lanes

@@ -58,7 +58,7 @@ entries_at (xs ∷ lanes) zero = refl
 entries_at (xs ∷ lanes) (suc c) = entries_at lanes c
 
 module _ (lanes : ℕ) (visits : ℕ → List Visit) (callers : StateLists) where
-  -- the book has a CPU's visits, and its entries
+  -- the list of CPU `c` in the book has the visits of the CPU's lane, and their entries
   pub cpu_visits : (c : ℕ) → c + 2 < lanes →
       list_at (book_of lanes visits callers).cpus c ≡ book_visits cpu_entry (visits (c + 2))
   cpu_visits c below =

@@ -70,7 +70,7 @@ module _ (l : ℕ) where
     subst (λ (q : List Visit). (replay q).least ≤ p) (sym (same o.0.0 o.0.1)) o.2,
   )
 
-  -- a pass that does not hold the lane owes no answer there
+  -- a pass that does not hold the lane `l` owes no answer at that lane
   pub owed_out : (a b : LaneView) (following following' : List Visit) → OwedAt l a following →
       ((t : ℕ) → ¬ (a.stage ≡ Holding t)) → b.owes ≡ a.owes → OwedAt l b following'
   owed_out a b following following' h out owes p e = let o = h p (sym owes ∙ e) in absurd (out o.0.0 o.0.1)
@@ -100,7 +100,7 @@ module _ (l : ℕ) where
       (t.0, at_longer here (x ∷ []) b t.0 t.1, t.2))
       (λ (t : (b ≡ length here) × Owes l p views). inl (x, at_last here x b (sym t.0), k p t.1)) (h p b y e n)
 
-  -- a pending reference is half answered in the lists that a view knows
+  -- a reference that is answered or owed (`Pending`) is half answered in the lists that a view knows
   pub half_known : (following here xs ys : List Visit) (views : List View) → Pending l following here views →
       Begins xs following → Begins ys here → HalfAnswered l xs ys
   half_known following here xs ys views h f g p b x e n = ⊎_elim

@@ -109,7 +109,7 @@ module _ {first : ℕ} {s : St} {id : ℕ} {v : View} (h : Here first s id v) (i
   got_free : OwesNothing i v
   got_free = plain.owes_nothing h i near waits_only
 
-  -- the pass already knows the whole list of each lane that it holds
+  -- the pass already knows the whole list of each other lane that it holds
   got_whole : (j u : ℕ) → j < length s.homes → j ≢ i → (at j v).stage ≡ Holding u → known_of got_view j ≡ known_of v j
   got_whole j u below ne hold = let whole = (lane.holds_turn (h.rule.lane j below) id (world.here h j) u hold).3 in
       (got_recasts j below ne).whole whole ∙ sym whole
