@@ -110,7 +110,7 @@ true_of true t = refl
 true_of false t = absurd cc
 
 module _ (fast : ℕ → ℕ → FastPool) (x : Sample) (effects : List Effect) (form : IrqForm set x.v1 x.v2 effects) where
-  -- if no dump is due, no dump is made
+  -- if the sample of a call makes no dump due, the call makes no dump
   no_dump : AllByRecursion (IsQuiet fast) effects → (form.rest ≡ []) ⊎ DumpForm set form.rest → QuietCall fast x effects
   no_dump quiet (inl bare) =
       let whole : effects ≡ at_cpu form.sample ∷ [] = form.effects_are ∙ ap (λ l. at_cpu form.sample ∷ l) bare in

@@ -44,7 +44,7 @@ number_from event [] a here = absurd here
 number_from event (steps ∷ calls) a (inl is) = let e = ap (λ (l : SeenLine). l.event) is in omega arith
 number_from event (steps ∷ calls) a (inr there) = let up = number_from (suc event) calls a there in omega arith
 
--- two lines with the same event are the same line
+-- two lines with the same event number are the same line
 one_line : (event : ℕ) (calls : List (List Step)) (a b : SeenLine) → IsIn a (lines event calls) →
     IsIn b (lines event calls) → a.event ≡ b.event → a ≡ b
 one_line event [] a b x y same = absurd x

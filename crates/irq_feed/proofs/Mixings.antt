@@ -31,7 +31,7 @@ use Rattle.irq_feed.specs.Rule.{IsWorker, Popped, with_taken}
 use Rattle.irq_feed.proofs.Counting.{first_length}
 use Rattle.irq_feed.specs.Mixing.{Interrupted, Mixes, Put, irq_at, irqs_of, irq_of, places_of}
 
--- ---- successive interrupts
+-- ---- Successive interrupts (`Mixes`)
 
 pub mixes_more : (set : Called) (event : ℕ) (xs : List Sample) (x : Sample) (v u w : View) → Mixes set event xs v u
     → Interrupted set (event + length xs) x u w → Mixes set event (xs ++ x ∷ []) v w

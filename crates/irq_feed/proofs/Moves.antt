@@ -47,7 +47,7 @@ no_seat o a none is = none-some a (sym none ∙ is)
 apart : (seat : ℕ → Option ℕ) (f g a b : ℕ) → seat f ≡ Some a → seat g ≡ Some b → b ≢ a → g ≢ f
 apart seat f g a b at bt other e = other (same_Some b a (sym bt ∙ ap seat e ∙ at))
 
--- ---- the samples of a feeder
+-- ---- The samples of one feeder in a list
 
 of_one : (x : Sample) (f : ℕ) → x.feeder ≡ f → of_feeder f (x ∷ []) ≡ x ∷ []
 of_one x f e = ap (λ b. cond b (x ∷ []) []) (eq-eqb x.feeder f e)
@@ -79,7 +79,8 @@ ordered_more feeds pushed xs x number before is f =
 
 -- ---- The feeders whose passes the worker took in (`Ended`)
 
--- if no feeder that has ended changes, `HasEnded` still holds for each of them
+-- if the pass and the number of pushed samples are unchanged for each feeder without a pass, `HasEnded` still holds for
+-- each feeder that ended
 ends_kept : (next next' : ℕ) (seat seat' : ℕ → Option ℕ) (pushed pushed' : ℕ → ℕ) (es : List Ended) → next ≤ next'
     → ((f : ℕ) → f < next → seat f ≡ None → (seat' f ≡ None) × (pushed' f ≡ pushed f))
     → AllByRecursion (HasEnded next seat pushed) es → AllByRecursion (HasEnded next' seat' pushed') es
@@ -378,7 +379,7 @@ joins pass (Worker d) other (Feeder p) may feeding items views h at two at' =
       fits = fit_set (Fits h.feeds h.worker seat h.pushed h.taken) vs other Nobody tt (λ j u away e. now j u e away);
     }
 
--- ---- the worker's knowledge of the queue
+-- ---- What the worker learns about the queue
 
 ends_learned : (next : ℕ) (seat : ℕ → Option ℕ) (pushed : ℕ → ℕ) (es : List Ended)
     → AllByRecursion (HasEnded next seat pushed) es → AllByRecursion (λ (e : Ended). pushed e.feeder ≡ e.pushed) es

@@ -29,7 +29,7 @@ pub struct FeedSums {
     pub samples: u32,
     /// The number of the CPU's dumps.
     pub dumps: u32,
-    /// The bits of the pool after these dumps.
+    /// The bits credited to the pool after all dumps.
     pub bits: u32,
 }
 

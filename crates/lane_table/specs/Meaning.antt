@@ -181,7 +181,7 @@ gave_of s (Cpu e) got = cpu_gives s.cpu.cpu got e
 abbrev pub model_step : Model → Visit → Model
 model_step s x = made_of s x.entry x.got
 
--- the model of a lane after these visits
+-- the model (a lane's value in the proofs) after the visits of a list
 abbrev pub replay : List Visit → Model
 replay xs = fold model_step start_model xs
 
@@ -230,7 +230,7 @@ abbrev pub NamesWithin : ℕ → Option (ℕ × ℕ) → Type 0
 NamesWithin lanes None = ⊤
 NamesWithin lanes (Some named) = named.0 < lanes
 
--- the visit may come next in a lane with the model `s`
+-- the visit `x` may come next in the lane `lane`, if its model (the value in the proofs) is `s`
 pub record MayCome (lanes lane : ℕ) (s : Model) (x : Visit) : Type 0 where
   pub kind : IsOf lane x.entry
   pub within : NamesWithin lanes (ahead_of x.entry)
@@ -265,7 +265,7 @@ pub record CpuLaneConforms (lane : CpuLane) (c : CpuModel) : Type 0 where
   pub b64 : lane.b64 ≡ batch_at 8 c
   pub fast : lane.fast ≡ c.fast
 
--- the value is of the lane's kind, and represents the model
+-- the value is of the kind that the lane with this number has, and represents the model (the value in the proofs)
 abbrev pub ValueRepresents : ℕ → LaneState → Model → Type 0
 ValueRepresents lane (PoolValue value) s = (lane ≡ 0) × PoolLaneConforms value s.pool
 ValueRepresents lane (BaseLaneValue value) s = (lane ≡ 1) × (value.base ≡ s.base)
@@ -277,7 +277,7 @@ no_one = record { caller = 0; event = 0; step = 0 }
 abbrev pub no_visit : Visit
 no_visit = record { who = no_one; stamp = 0; entry = Pool Bits; got = nothing; gave = nothing }
 
--- the key that the visit at the named place hands on
+-- the key that the visit at the named place of the list `following` hands on; no key if no place is named
 abbrev pub got_of : Option ℕ → List Visit → Handed
 got_of None following = nothing
 got_of (Some place) following = (slice_index_or following place no_visit).gave

@@ -128,7 +128,7 @@ pub record Generation (s : St) (logs : ℕ → List Visit) : Type 0 where
       (replay (logs lane)).cpu.cpu.generation ≤ generation_word s
   pub small : generation_word s < 2 ^ 63
 
--- Each law follows from the rule, for the lists of the rule
+-- The laws: if the rule (`WorldRule`) holds for the state `s` of a table, each part holds for `s` and the rule's lists
 
 abbrev pub EachTicketHasOneHolder : Type 0
 EachTicketHasOneHolder = (first : ℕ) (s : St) (lane : ℕ) → WorldRule first s → lane < length s.homes → Tickets s lane

@@ -96,7 +96,7 @@ learned lists v = record v { lanes = learn_from lists 0 v.lanes }
 abbrev pub KeepsHeld : ℕ → View → View → Type 0
 KeepsHeld lane v w = (j u : ℕ) → j < length v.lanes → j ≢ lane → (at j v).stage ≡ Holding u → at j w ≡ at j v
 
--- each known list stays or grows
+-- from one view to the other, each known list stays the same or grows
 abbrev pub Grows : View → View → Type 0
 Grows v w = (j : ℕ) → j < length v.lanes → Begins (known_of v j) (known_of w j)
 
@@ -169,7 +169,7 @@ pub record MayName (lane : ℕ) (e : LaneEntry) (v : View) : Type 0 where
   pub following : after_of e ≡ (at lane v).owes
   pub raise : lane ≡ 1 → (at 1 v).raised ≡ raise_of e
 
--- the key that an entry of the lane receives
+-- the key that an entry of `lane` receives, from the parent lane's list as the view `v` knows it
 abbrev pub handed : ℕ → LaneEntry → View → Handed
 handed lane e v = got_of (after_of e) (known_of v (parent lane))
 

@@ -35,7 +35,7 @@ cpu_serving m got (Dump now) = []
 cpu_serving m got Prepare = []
 cpu_serving m got Online = []
 
--- a batch has room for an integer of this width
+-- a batch of 96 bytes has room for an integer of `width` bytes
 pub record FitsBatch (width : ℕ) : Type 0 where
   pub some : 1 ≤ width
   pub within : width ≤ 96

@@ -39,7 +39,7 @@ module _ (s : PoolState) (word kind code value now : ℕ) (before between : Pool
         timer = ap (λ (k : LastInput). k.timer) m.keeps ∙ m.stood.timer ∙ sym (ap (λ (z : PoolState). z.timer) e);
       }
 
-  -- a pool that is not full gets the timer's credit
+  -- if the pool is not full, the event credits the bits that the timer gives
   module _ (after : PoolParts) (next : LastInput) (bits : ℕ) (room : between.bits < 256)
       (worth : bits ≡ timer_bits kept.timer now) (credits : PoolConforms after (mixed_and_credited s text bits)) where
     room' : s.bits < 256

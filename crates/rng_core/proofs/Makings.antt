@@ -37,7 +37,7 @@ use Rattle.rng_core.specs.Makes.{MakesIn, Makes, Serving, Served, IsOutcomeOf, s
 use Rattle.rng_core.proofs.TellLemmas.{recorded_then, recorded_idly}
 use Rattle.rng_core.proofs.Finding.{found_pool, found_base, found_cpu}
 
--- the generation that the pass has seen does not fall
+-- from `m` to `n` the greatest generation that the pass has seen does not fall
 pub did_floor : {P : (ℕ → List Visit) → List Effect → Type 0} (set : Setting) (m n : Moment) → MakesIn P set m n →
     floor m.view ≤ floor n.view
 did_floor set m n k = sees_up n.view (floor m.view) (floor n.view) k.made_steps k.recorded.went.sees
@@ -204,7 +204,7 @@ did_refilled_read set k l m n g base place s got taken bytes a x y = record {
       };
 }
 
--- a call that makes no step has no effects
+-- if P holds for an empty list of effects, a call that makes no step satisfies `Makes P`
 pub did_nothing : {P : List Effect → Type 0} (set : Setting) (m : Moment) → 1 < length m.view.lanes → P [] →
     Makes P set m m
 did_nothing set m two p = record {

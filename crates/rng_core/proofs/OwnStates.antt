@@ -283,7 +283,7 @@ all_within lists c p (uses ∷ states) all = let here = within_left lists c p us
     let rest = all_within lists c p states all.1 in
     omega (arith, sum_by-cons (λ (us : List OwnUse). sum_by (visits_at c p) us) uses states)
 
--- only state 0 of a caller can have a read as its key
+-- if an entry of state `k` of caller `i` takes a read as its key, `k` is 0
 none_else : (states : List (List OwnUse)) (i k n : ℕ) (read : ℕ × ℕ) →
     rekey_at (list_at (list_at (map own states) i) k) n ≡ Some read → k ≡ 0
 none_else [] i k n read is = absurd (cc is)

@@ -110,7 +110,7 @@ module _ (caller event : ℕ) where
   known_by w n (looked g ∷ made_steps) conform = known_by w (suc n) made_steps conform
   known_by w n (visited mark e ∷ made_steps) conform = ((e, conform.0), known_by w (suc n) made_steps conform.1)
 
--- one call makes exactly the visits that its trace lists
+-- if `TraceRecords` holds for a call, the call made exactly the visits that its trace lists
 pub path_recorded : (set : Setting) (v w : View) (steps : List Step) (made_steps : List MadeStep) →
     TraceRecords set (knowing v []) (knowing w steps) made_steps → Path v w (marks_from set.caller set.event 0 steps)
 path_recorded set v w steps made_steps is =

@@ -41,7 +41,7 @@ looks_below : (effects : List Effect) → {E : Type 0} (d : E → Effect) → ((
 looks_below effects d same None = refl
 looks_below effects d same (Some e) = same e
 
--- a visit counts as no look
+-- an effect of a visit adds no look to those of the other effects
 visit_looks : (lists : Lists) (l : LaneId) (place : ℕ) (effects : List Effect) →
     looks_of (effect_at lists l place ∷ effects) ≡ looks_of effects
 visit_looks lists PoolLane place effects = looks_below effects (λ e. at_pool (pool_visit lists place e)) (λ e. refl) _
@@ -145,7 +145,7 @@ stayed n flags s t answer shown set l m k = go k.began
     go (inl served) = stayed_at l.view k.looked served.0
     go (inr unserved) = stayed_by n flags s l.view k.looked unserved (tries_local n flags []) refl
 
--- a read that the batch served
+-- the batch of the state `s` served the read of `n` bytes, and the state became `t`
 module _ (n flags : ℕ) (s t : VgetrandomState) (out : List ℕ) (set : Setting) (l m : Moment)
     (k : LocallyServed n flags s t out set l m) where
   local_line : (before : CallerState) → current_state before ≡ s →
@@ -187,7 +187,7 @@ good_flags true true e = absurd (cc e)
 good_flags false true e = absurd (cc e)
 good_flags x false e = refl
 
--- a read that a call of vgetrandom served
+-- a call of vgetrandom on the state `s` served the read of `n` bytes, and the state became `t`
 module _ (n flags : ℕ) (s t : VgetrandomState) (answer : Answer) (shown : Shown) (set : Setting) (l m o : Moment)
     (low : s.generation ≤ published_by (floor l.view))
     (left : Unserved n flags s l.view m.view) (k : Called n flags s t answer shown set m o)

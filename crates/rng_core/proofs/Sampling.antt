@@ -35,7 +35,7 @@ use Rattle.rng_core.specs.SampleEffects.{Sampled, DumpConforms, fast_in}
 use Rattle.rng_core.proofs.Makings.{After}
 use Rattle.rng_core.proofs.Finding.{found_cpu}
 
--- the steps after a credit mix no bytes, and visit no CPU
+-- the steps for a threshold that a credit crossed mix no bytes into the pool, and visit no CPU
 rooted : (set : CallSetting) (entry : ℕ → BaseEntry) (effects : List Effect) → Rooted set entry effects →
     AllByRecursion IsCrossing effects
 rooted set entry effects f = subst (AllByRecursion IsCrossing) (sym f.effects_are)

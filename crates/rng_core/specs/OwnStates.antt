@@ -37,7 +37,7 @@ pub data OwnUse : Type 0 where
       LocallyServed n flags s t out set l m → OwnUse
   by_wipe : VgetrandomState → OwnUse
 
--- the state before a use, and after it
+-- the vgetrandom state before a use. `after_use`: the state after it
 abbrev pub before_use : OwnUse → VgetrandomState
 before_use (by_vread n flags s t answer shown set l m k) = s
 before_use (by_vread_inside n flags s t answer shown set l m asks outcomes k) = s

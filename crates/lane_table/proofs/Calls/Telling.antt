@@ -229,7 +229,7 @@ got_pass {i} {t} {m} {m'} got lanes p q h is is' table stamp caller = let v₀ :
       caller = caller;
     }
 
--- A view after a visit
+-- The view of a pass after its visit of a lane
 
 owing_other : (o : Option (ℕ × ℕ)) (place : ℕ) (u : View) (j : ℕ) → ((l b : ℕ) → o ≡ Some (l, b) → j ≢ l) →
     at j (owing o place u) ≡ at j u

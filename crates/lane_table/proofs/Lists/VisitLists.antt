@@ -36,7 +36,7 @@ with_both (x ∷ xs) lists log all = all
 pub begins_push : (xs : List Visit) (x : Visit) → Begins xs (xs ++ x ∷ [])
 begins_push xs x = (x ∷ [], refl)
 
--- a prefix that is as long as its list is the whole list
+-- if `xs` is a prefix of `ys` and at least as long, `xs` and `ys` are equal
 pub begins_whole : (xs ys : List Visit) → Begins xs ys → length ys ≤ length xs → xs ≡ ys
 begins_whole xs ys (([], e)) h = sym (e ∙ append-nil xs)
 begins_whole xs ys ((z ∷ zs, e)) h = let n = ap length e in absurd (omega (arith, length-append xs (z ∷ zs)))

@@ -44,7 +44,7 @@ module _ {first : ℕ} {s : St} {id : ℕ} {v : View} (h : Here first s id v) (s
       (pow_pos (top - u.halvings)) in absurd (omega (arith, none'))) in
       ap (λ (l : List LaneView). get_or l i blank) ((h.rule.views j u e).spent zero')
 
-  -- all passes are away from each lane
+  -- no pass waits for a lane or holds one
   all_away : (i j : ℕ) (u : View) → get_elem? s.views j ≡ some u → (at i u).stage ≡ Away
   all_away i j u e = dite (ℕ_discrete j id) (λ hit. ap (λ (z : View). (at i z).stage)
       (some-injective u v (sym e ∙ ap (λ (k : ℕ). get_elem? s.views k) hit ∙ h.is)) ∙ idle i)

@@ -16,7 +16,7 @@ use Rattle.lane_table.specs.Steps.{longer}
 use Rattle.lane_table.proofs.Lists.Lists.{at_push, bool_cases}
 use Rattle.lane_table.proofs.Lists.VisitLists.{at_begun, at_begun_back, begins_length, longer_left, longer_right, longer_is}
 
--- the parent lane has a lower number
+-- the parent lane of the lane `l` has a lower number than `l`
 pub parent_below : (l : ℕ) → 1 ≤ l → parent l < l
 parent_below l h = bool_cases (eqb l 1) (λ b. cond b 0 1 < l) (λ e. omega arith)
     (λ e. let ne : l ≢ 1 = λ q. (let g : true ≡ false = sym (eq-eqb l 1 q) ∙ e in cc g) in omega arith)

@@ -148,7 +148,7 @@ module _ {first : ℕ} {s : St} {id : ℕ} {v : View} (h : Here first s id v) wh
     pub rises : get_or s.words 0 0 ≤ get_or (set s.words k y) 0 0
     pub small : get_or (set s.words k y) 0 0 < 2 ^ 63
 
-  -- a store in another word does not change the generation
+  -- a store in a word other than word 0 does not change the generation
   pub unraised : (k y : ℕ) → ¬ (0 ≡ k) → get_or (set s.words k y) 0 0 ≡ get_or s.words 0 0
   unraised k y ne = get_or-set_other s.words k 0 y 0 ne
 
