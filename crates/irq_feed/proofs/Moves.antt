@@ -379,7 +379,7 @@ joins pass (Worker d) other (Feeder p) may feeding items views h at two at' =
       fits = fit_set (Fits h.feeds h.worker seat h.pushed h.taken) vs other Nobody tt (λ j u away e. now j u e away);
     }
 
--- ---- What the worker learns about the queue
+-- ---- The worker's knowledge of the queue's samples
 
 ends_learned : (next : ℕ) (seat : ℕ → Option ℕ) (pushed : ℕ → ℕ) (es : List Ended)
     → AllByRecursion (HasEnded next seat pushed) es → AllByRecursion (λ (e : Ended). pushed e.feeder ≡ e.pushed) es

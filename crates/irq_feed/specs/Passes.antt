@@ -9,7 +9,7 @@ use Rattle.irq_feed.specs.declared.queue.FeedPass.{FeedPass}
 use Rattle.irq_feed.specs.Feeds.{Numbers}
 use Rattle.irq_feed.specs.Rule.{begun, post}
 
--- what a pass of the queue knows
+-- the knowledge of a pass of the queue
 abbrev pub known : FeedPass → Known
 known w = ruled.view w.pass
 

@@ -13,7 +13,7 @@ use Rattle.irq_feed.specs.declared.known.Known.TheVariants.{Worker, Feeder, Nobo
 use Rattle.irq_feed.specs.Feeds.{Numbers, numbers}
 use Rattle.irq_feed.specs.Samples.{sample, first_samples, of_feeder}
 
--- What the worker and a feeder know
+-- The knowledge of the worker and of a feeder
 
 abbrev pub desk : Numbers → List Sample → ℕ → List Ended → WorkerKnowledge
 desk feeds taken next ended = record { feeds = feeds; taken = taken; next = next; ended = ended }
@@ -62,7 +62,7 @@ pub record InOrder (items : List Sample) (views : List Known) : Type 0 where
   pub bounded : (feeder : ℕ) → pushed feeder ≤ feeds.each
   pub fits : (pass : ℕ) (v : Known) → get_elem? views pass ≡ some v → Fits feeds worker seat pushed taken pass v
 
--- What a pass knows after each kind of step
+-- The knowledge of a pass after each kind of step
 
 -- after a push the feeder knows that it pushed one more sample
 abbrev pub Pushed : Known → Sample → Known → Type 0
@@ -127,7 +127,7 @@ no_feeds = Worker (desk (numbers 0 0 0) [] 0 [])
 abbrev pub begun : Numbers → Known
 begun feeds = Worker (desk feeds [] 0 [])
 
--- What the rule tells the worker about the queue's samples at any moment
+-- The facts that the rule gives the worker about the queue's samples at any moment
 
 pub record Learned (d : WorkerKnowledge) (items : List Sample) : Type 0 where
   pub pushed : ℕ → ℕ

@@ -28,7 +28,7 @@ AreCalls lists (x ∷ xs) (steps ∷ calls) =
     IsOutcomeOf (setting_of (first_setting 0)) (IrqEvent x.v1 x.v2) Done no_data (effects_of lists steps)
     × AreCalls lists xs calls
 
--- the marks of the visits of all calls in a list, which are the events `event`, `event + 1` and so on
+-- the marks of the visits of the calls in a list; the calls are the events `event`, `event + 1` and so on
 abbrev pub marks_of : ℕ → List (List Step) → List MarkBy
 marks_of event [] = []
 marks_of event (steps ∷ calls) = marks_from 0 event 0 steps ++ marks_of (suc event) calls

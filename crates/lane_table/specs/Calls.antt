@@ -92,7 +92,7 @@ pub record CanLeave (t : Lanes) (p : Pass) (h : Held) : Type 0 where
   pub value : ValueRepresents h.turn.lane h.state (replay (known_of (view p) h.turn.lane))
   pub free : OwesNothing h.turn.lane (view p)
 
--- What a call leaves unchanged in a view
+-- The parts of a view that a call leaves unchanged
 
 -- these fields of a view are as before; only split and join change them
 pub record SameView (v w : View) : Type 0 where
@@ -101,7 +101,7 @@ pub record SameView (v w : View) : Type 0 where
   pub halvings : w.halvings ≡ v.halvings
   pub sized : length w.lanes ≡ length v.lanes
 
--- the pass's visits of lane `j`, and the lists of `j` that it got by joins (`heard`), are as before
+-- the pass's visits of lane `j`, and the lists of `j` that its joins kept (`heard`), are as before
 pub record SameHistory (j : ℕ) (v w : View) : Type 0 where
   pub made : (at j w).made ≡ (at j v).made
   pub places : (at j w).places ≡ (at j v).places

@@ -1,5 +1,5 @@
--- Acts that run at a point (one of four moments of a vgetrandom call) extend what the caller's pass knows, and leave
--- the caller's own steps as they are. Each act has the meaning of its line.
+-- Acts that run at a point (one of four moments of a vgetrandom call) extend the knowledge of the caller's pass, and
+-- leave the caller's own steps as they are. Each act has the meaning of its line.
 use Rattle.std.proofs.Common.{◌≡◌, ℕ, ◌≤◌, Bool, true, false, not, List, [], ◌∷◌, ◌++◌, length, map, refl, sym, ap, ◌∙◌, subst, arith, append-nil, append_assoc}
 use Rattle.std.specs.Prelude.{MatchBool, ◌&&◌, ◌||◌, ⊤}
 use Rattle.std.specs.List.{AllByRecursion, list_any}
@@ -176,7 +176,7 @@ own_after {set} l m n same onward idle k = record {
   conforms = k.conforms;
 }
 
--- What the outcome (`ActOutcome`) of each act means
+-- The meaning of each act's outcome (`ActOutcome`)
 
 -- if the act of the request `a` ran, its outcome `z` has the act's meaning in all lists that continue those that the
 -- view `w` knows; else `z` has no steps

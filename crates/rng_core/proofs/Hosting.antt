@@ -40,7 +40,7 @@ use Rattle.lane_table.specs.BookLaws.{Continues}
 use Rattle.rng_core.specs.Makes.{Makes, IsOutcomeOf, setting_of, result_answer, given}
 use Rattle.rng_core.specs.Hosted.{is_away, IsFree, IsRead, SystemCall}
 
--- A pass that holds no lane
+-- A pass that holds no lane has no slot taken out
 
 pub none_left : {A : Type 0} (xs : List A) → length xs ≡ 0 → xs ≡ []
 none_left [] e = refl

@@ -1,4 +1,4 @@
--- Two successive reads out of one vgetrandom state of a caller satisfy what the law `OwnStatesAreLawful` requires.
+-- Two successive reads out of one vgetrandom state of a caller satisfy the conditions of the law `OwnStatesAreLawful`.
 use Rattle.std.proofs.Common.{◌≡◌, ℕ, ◌+◌, ◌<◌, ◌≤◌, cond, List, [], ◌∷◌, ◌++◌, length, get_or, refl, sym, ap, ◌∙◌, subst, arith}
 use Rattle.std.specs.Prelude.{◌==◌}
 use Rattle.std.specs.List.{sum_by}

@@ -1,4 +1,4 @@
--- A caller as the host of a vgetrandom call with acts inside: what the caller does over the lanes at each step of the
+-- A caller as the host of a vgetrandom call with acts inside: the caller's own steps over the lanes at each step of the
 -- host.
 use Rattle.std.specs.Prelude.{◌≡◌, ℕ, ◌&&◌, Bool, true, false, MatchBool, List, if◌then◌else◌}
 use Rattle.key_names.specs.declared.point.Point.{Point}

@@ -1,4 +1,4 @@
--- A caller as the host of its own vgetrandom calls: what the caller does over the lanes at each step of the host.
+-- A caller as the host of its own vgetrandom calls: the caller's own steps over the lanes at each step of the host.
 use Rattle.std.specs.Prelude.{◌≡◌, ℕ, ◌<◌, ◌≤◌, ⊤, Bool, true, false, IsTrue, List, [], ◌∷◌, length}
 use Rattle.std.proofs.Props.{props}
 use Rattle.std.specs.Coded.{Coded-set}

@@ -38,7 +38,7 @@ cpu_lane c = c + 2
 abbrev pub most_bytes : ℕ
 most_bytes = 2 ^ 20
 
--- the greatest stamp that a pass may have when it makes a visit
+-- a pass may make a visit only while its stamp is at most `last_stamp`
 abbrev pub last_stamp : ℕ
 last_stamp = 2 ^ 62
 
@@ -97,8 +97,8 @@ IsTimely s = s.set.now < 2 ^ 40
 abbrev pub HasRoom : ℕ → Site → Type 0
 HasRoom steps s = length s.trace.now + steps ≤ 20
 
--- the caller holds only `lane`, whose value in `h` is unchanged. While it holds the lane, it owes an answer to the
--- entry at place `owes` (if any), and raised the generation `raised` times
+-- the caller holds only `lane`, whose value in `h` is unchanged. It owes an answer to the parent lane's entry at place
+-- `owes` (if any), and raised the generation `raised` times in this hold
 pub record HoldsWith (owes : Option ℕ) (raised lane : ℕ) (h : Held) (s : Site) : Type 0 where
   pub has : HasInHands (hand h.turn owes raised ∷ []) s
   pub lane_is : h.turn.lane ≡ lane

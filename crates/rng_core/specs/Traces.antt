@@ -19,7 +19,7 @@ use Rattle.lane_table.specs.Calls.{view}
 use Rattle.lane_table.specs.Advances.{MadeStep, visited, step_of, Advances}
 use Rattle.rng_core.specs.declared.setting.Setting.{Setting}
 
--- what a pass knows (`view`), and the steps that its trace has so far
+-- the knowledge of a pass (`view`), and the steps that its trace has so far
 pub record Moment : Type 0 where
   pub view : View
   pub steps : List Step

@@ -46,7 +46,7 @@ set_self [] i d = refl
 set_self (x ∷ xs) zero d = refl
 set_self (x ∷ xs) (suc i) d = ap (λ (l : List _). x ∷ l) (set_self xs i d)
 
--- if a view's part of a lane is set to what it is, nothing changes
+-- if a view's part of a lane is set to itself, nothing changes
 pub set_at : (i : ℕ) (v : View) → set v.lanes i (at i v) ≡ v.lanes
 set_at i v = set_self v.lanes i blank
 

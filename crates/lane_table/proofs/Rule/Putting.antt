@@ -48,7 +48,8 @@ module _ {first : ℕ} {s : St} {id : ℕ} {v : View} (h : Here first s id v) (i
   abbrev homes' : Content → List (maybe.Option (Option Content))
   homes' c = set s.homes i (some (Some c))
 
-  -- the lane's rule for the words and the slot as they are after the value went back
+  -- if the lane's rule holds for the serving number `t + 1` and a slot with `c`, it holds for the words and the slot
+  -- after `c` went back
   home_lane : (c : Content) (log' : List Visit) (a' : LaneView) →
       LaneOk i first (get_or s.words (ticket_word i) 0) (t + 1) (some (some (Some c))) (set (column i s.views) id a')
       log' (h.rule.owners i)
