@@ -74,7 +74,7 @@ pub record IsFedBook (samples : List Sample) (book : Book) : Type 0 where
   pub last : ℕ
   pub in_order : Climbs 0 (map (λ by. by.mark.stamp) (marks_of 0 calls)) last
 
--- all samples of these feeders were mixed on a new table, each once, and those of each feeder in order. The sums are
+-- all samples of the feeders were mixed on a new table, each once, and those of each feeder in order. The sums are
 -- those of the table's book, and the order of different feeders' samples does not change them
 pub record IsFed (start feeders each : ℕ) (sums : FeedSums) : Type 0 where
   pub samples : List Sample

@@ -126,7 +126,7 @@ fn tell_feeds<F: Naming>(queue: &FeedQueue, worker: &mut FeedPass, _feeds: &Feed
 }
 
 impl FeedQueue {
-    /// An empty queue for these feeds, and the worker's pass, which has taken no sample and gives out number 0 next.
+    /// Makes an empty queue for `feeds`, and the worker's pass, which has taken no sample and gives out number 0 next.
     ///
     /// # Errors
     ///

@@ -85,8 +85,8 @@ pub record CanPut (t : Lanes) (p : Pass) (h : Held) (e : LaneEntry) : Type 0 whe
   pub fits : Fits (replay (known_of (view p) h.turn.lane)) (handed h.turn.lane e (view p)) e
   pub names : MayName h.turn.lane e (view p)
 
--- this hold changed nothing: the value is the one that was taken, no entry waits for this place, and the generation was
--- not raised
+-- the hold `h` changed nothing: the value is the one that was taken, no entry of the parent lane waits for an answer at
+-- the held place, and the generation was not raised
 pub record CanLeave (t : Lanes) (p : Pass) (h : Held) : Type 0 where
   pub holds : Holds t p h
   pub value : ValueRepresents h.turn.lane h.state (replay (known_of (view p) h.turn.lane))

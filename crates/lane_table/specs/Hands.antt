@@ -18,7 +18,7 @@ pub record HeldLane : Type 0 where
   pub stamp : ℕ
   -- the place of the parent lane's entry that names the held place, if there is one
   pub owes : Option ℕ
-  -- 1 if this hold raised the generation
+  -- 1 if the pass raised the generation while it held this lane, else 0
   pub raised : ℕ
 
 abbrev pub hand : TakenTurn → Option ℕ → ℕ → HeldLane

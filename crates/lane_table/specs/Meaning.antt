@@ -39,7 +39,7 @@ IsOf lane (Pool e) = lane ≡ 0
 IsOf lane (Base e) = lane ≡ 1
 IsOf lane (Cpu e) = 2 ≤ lane
 
--- the parent lane, from which this lane's entries take keys: the pool for the base, and the base for a CPU
+-- the parent lane of a lane, from which its entries take keys: the pool for the base, and the base for a CPU
 abbrev pub parent : ℕ → ℕ
 parent lane = if lane == 1 then 0 else 1
 
@@ -248,7 +248,7 @@ pub record PoolLaneConforms (lane : PoolLane) (s : PoolState) : Type 0 where
   pub value : lane.timer.value ≡ s.value
   pub timer : lane.timer.timer ≡ s.timer
 
--- a batch of this width with these bytes, after its last fill
+-- a batch of integers of `width` bytes, with the bytes `bytes`, after its last fill
 abbrev pub batch_of : ℕ → Option Fill → List ℕ → BatchValue
 batch_of width None bytes = record { bytes = bytes; position = 96 / width; generation = 0 }
 batch_of width (Some fill) bytes = record { bytes = bytes; position = fill.count; generation = fill.look }

@@ -38,8 +38,8 @@ AllHalfAnswered lanes lists = (lane : ℕ) → 1 ≤ lane → lane < lanes
 abbrev pub LawfulLists : ℕ → (ℕ → List Visit) → Type 0
 LawfulLists lanes lists = (lane : ℕ) → lane < lanes → LawfulLane lanes lane (lists lane)
 
--- the lists of these lanes are lawful, references to parent lanes agree, and each reference ahead is answered or half
--- finished
+-- the lists of `lanes` lanes are lawful, references to parent lanes agree (`Closed`), and each reference from a parent
+-- lane is answered or half finished
 pub record ConsistentLists (lanes : ℕ) (lists : ℕ → List Visit) : Type 0 where
   pub closed : Closed lanes lists
   pub lawful : LawfulLists lanes lists

@@ -152,7 +152,7 @@ abbrev pub after : ℕ → Visit → View → View
 after lane x v =
     owing (ahead_of x.entry) (length (known_of v lane)) (with_at lane (visited x (at lane v)) (with_stamp x.stamp v))
 
--- the pass holds the lane `ahead`, `place` is the next place there, and no other entry names it
+-- the pass holds the lane `ahead`; `place` is that lane's next place, and no other entry names it
 pub record NamesHeld (lane : ℕ) (v : View) (ahead place : ℕ) : Type 0 where
   pub above : 1 ≤ ahead
   pub near : ahead < length v.lanes

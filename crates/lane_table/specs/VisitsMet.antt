@@ -1,5 +1,5 @@
--- The effect of a visit in the book, compared with the lane's model (its value in the proofs) that the visit's maker
--- found, and with the key that the visit received.
+-- The effect of a visit in the book, compared with two facts: the lane's model (its value in the proofs) before the
+-- visit, and the key that the visit received.
 use Rattle.std.specs.Prelude.{◌≡◌, ℕ, ◌≤◌, ⊤, true, false, List, []}
 use Rattle.key_names.specs.declared.names.LaneId.TheVariants.{Pool as PoolLane, Base as BaseLane, Cpu as CpuLane}
 use Rattle.key_names.specs.declared.entries.PoolEntry.{PoolEntry}

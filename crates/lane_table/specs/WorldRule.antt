@@ -168,7 +168,7 @@ abbrev pub Owes : ℕ → ℕ → List View → Type 0
 Owes lane p views = (j : ℕ) × (v : View) × (get_elem? views j ≡ some v) × ((at lane v).owes ≡ Some p)
 
 -- if an entry of the parent lane names a place of the lane, the visit at that place names the entry; or the place is
--- the next one, and a pass owes the answer
+-- the lane's next one, and a pass owes the answer
 abbrev pub Pending : ℕ → List Visit → List Visit → List View → Type 0
 Pending lane following here views =
     (p b : ℕ) (x : Visit) → get_elem? following p ≡ some x → ahead_of x.entry ≡ Some (lane, b)

@@ -1,5 +1,5 @@
--- If a call at a site (its table, pass, trace and setting) reads bytes or serves an integer, its effects have the form
--- of that event, and its visits serve the bytes.
+-- A call at a site (its table, pass, trace and setting) reads bytes or serves an integer. Its effects have the form of
+-- that event, and its visits serve the bytes.
 use Rattle.std.proofs.Common.{◌≡◌, ℕ, ◌+◌, ◌≤◌, Bool, true, List, length, Some, None, subst, arith}
 use Rattle.key_names.specs.declared.entries.PoolEntry.TheVariants.{Extract}
 use Rattle.key_names.specs.declared.entries.BaseEntry.{BaseEntry}

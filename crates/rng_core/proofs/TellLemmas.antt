@@ -65,8 +65,8 @@ lane_fits PoolLane low = tt
 lane_fits BaseLane low = tt
 lane_fits (CpuLane c) low = omega arith
 
--- if a mark has the place of a held lane, and a stamp one above the greater of the lane's last stamp `stamp` and the
--- pass's stamp `own`, and all are within their limits, the mark fits (`MarkFits`)
+-- suppose that a mark has the place of a held lane, and a stamp one above the greater of the lane's last stamp `stamp`
+-- and the pass's stamp `own`. If all are within their limits, the mark fits (`MarkFits`)
 pub mark_fits : (mark : Mark) (lane place stamp own : ℕ) → index_of mark.lane ≡ lane → lane < 258 →
     mark.place ≡ place → place ≤ stamp → stamp < 2 ^ 62 → own ≤ 2 ^ 62 → mark.stamp ≡ max own stamp + 1 → MarkFits mark
 mark_fits mark lane place stamp own on near there low early late is = record {

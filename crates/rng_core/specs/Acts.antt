@@ -73,7 +73,7 @@ pub record AreReady (bounds : List Bound) (out : List ℕ) : Type 0 where
   pub fits : length out ≡ all_wanted (asks_of bounds)
   pub ready : all_ready bounds ≡ true
 
--- the meaning of the line of an act that ran, with these effects, this result and these bytes
+-- the meaning of the line of an act that ran, with its effects, its result `answer` and its bytes
 abbrev pub done_line : List Effect → Result (Unit {0}) Errno → List ℕ → LineMeaning
 done_line effects answer bytes =
     record { effects = effects; answer = result_answer answer; shown = bytes_or_none (given answer bytes) }

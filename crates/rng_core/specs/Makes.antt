@@ -41,7 +41,7 @@ pub record MakesIn (P : (ℕ → List Visit) → List Effect → Type 0) (set : 
 abbrev pub Makes : (List Effect → Type 0) → Setting → Moment → Moment → Type 0
 Makes P set m n = MakesIn (λ visits. P) set m n
 
--- the effects have the form F, and serve these bytes
+-- `effects` have the form `F`, and serve `bytes`
 pub record Serving (F : List Effect → Type 0) (bytes : List ℕ) (effects : List Effect) : Type 0 where
   pub form : F effects
   pub bytes_are : bytes ≡ served_bytes effects

@@ -109,7 +109,8 @@ pub record OwnStates (s : St) (states : List (List OwnUse)) : Type 0 where
   pub counted : (c p : ℕ) → c + 2 < length s.homes →
       all_visits_at c p states ≤ sum_by (λ v. times p (at (c + 2) v).places) s.views
 
--- the book of the table's lists so far and of these states. In the book each state is state 0 of a caller
+-- the book of the table's lists `logs` so far and of the vgetrandom states `states`. In the book each of these states
+-- is state 0 of a caller
 abbrev pub own_lists : St → (ℕ → List Visit) → List (List OwnUse) → Lists
 own_lists s logs states = book_lists (length s.homes) logs (map (λ uses. entries_left uses ∷ []) states)
 

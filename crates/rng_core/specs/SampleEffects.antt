@@ -20,7 +20,7 @@ pub record Sampled (F : List Effect → Type 0) (visits : ℕ → List Visit) (e
   pub holds : F effects
   pub samples : SamplesConform (fast_in visits) effects
 
--- the effects begin with a dump of the setting's CPU, at this place or later, and the visit of the pool that mixes the
+-- the effects begin with a dump of the setting's CPU, at `place` or later, and the visit of the pool that mixes the
 -- dump
 pub record DumpConforms (set : Setting) (place : ℕ) (visits : ℕ → List Visit) (effects : List Effect) : Type 0 where
   pub dump : CpuVisit

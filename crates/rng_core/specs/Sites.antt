@@ -303,6 +303,6 @@ pub record DoesIn (steps : ℕ) (P : (ℕ → List Visit) → List Effect → Ty
 abbrev pub Does : ℕ → (List Effect → Type 0) → Site → Site → Type 0
 Does steps P m n = DoesIn steps (λ visits. P) m n
 
--- the call completed an event, with this answer and these data
+-- the call completed the event `event`, in at most `steps` steps, with the answer `answer` and the data `shown`
 abbrev pub Completes : ℕ → Event → Answer → Shown → Site → Site → Type 0
 Completes steps event answer shown m n = Does steps (IsOutcomeOf (setting_of m.set) event answer shown) m n

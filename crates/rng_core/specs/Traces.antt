@@ -30,7 +30,8 @@ knowing v steps = record { view = v; steps = steps }
 abbrev pub moment : Pass → List Step → Moment
 moment pass steps = knowing (view pass) steps
 
--- from `m` to `n` the pass made exactly these steps, the trace lists them, and a transcript can have each (`StepFits`)
+-- from `m` to `n` the pass made exactly the steps `made_steps`, the trace lists them, and a transcript can have each
+-- (`StepFits`)
 pub record TraceRecords (set : Setting) (m n : Moment) (made_steps : List MadeStep) : Type 0 where
   pub trace : n.steps ≡ m.steps ++ map step_of made_steps
   pub went : Advances set.caller set.event (length m.steps) m.view n.view made_steps

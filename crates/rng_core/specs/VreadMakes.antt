@@ -92,8 +92,8 @@ vread_meaning effects answer shown entries before t = record {
   after = with_state before t;
 }
 
--- for each caller with this setting and with `s` as its current state, these are the effects of a read that changes the
--- state to `t`
+-- for each caller with the given setting and the current state `s`, the given effects are those of a read that changes
+-- the state to `t`
 abbrev pub VreadLine : CallSetting → ℕ → ℕ → VgetrandomState → VgetrandomState → Answer → Shown → List VEntry →
     List Effect →
     Type 0

@@ -78,7 +78,8 @@ base_kind = record { wrap = Base; of = base_entry; unwraps = λ e. refl; only = 
 abbrev pub cpu_kind : (c : ℕ) → Kind CpuEntry (c + 2)
 cpu_kind c = record { wrap = Cpu; of = cpu_entry; unwraps = λ e. refl; only = cpu_only c }
 
--- `x` is the visit at place `i` of a lawful lane: its entry is in the book at that place, and may come there
+-- `x` is the visit at place `i` of a lawful lane: the book has its entry at that place, and the entry may come after
+-- those before it
 pub record VisitAt {E : Type 0} {lane : ℕ} (k : Kind E lane) (lanes : ℕ) (xs : List Visit) (i : ℕ)
     (x : Visit) : Type 0 where
   pub entry : E

@@ -1,5 +1,5 @@
--- Each lane's model (its value in the proofs) is the one that the book's lists give, and the key that each visit hands
--- on is the one that the book gives for the visit's place.
+-- Each lane's model (its value in the proofs) is the one that the book's lists give. The key that each visit hands on
+-- is the one that the book gives for the visit's place.
 use Rattle.std.proofs.Common.{◌≡◌, ℕ, ◌+◌, ◌≤◌, ◌<◌, List, length, take, sym, ap, ◌∙◌, subst, arith, Some, Option}
 use Rattle.std.specs.Prelude.{slice_get}
 use Rattle.key_names.specs.declared.entries.Taken.{Taken}
