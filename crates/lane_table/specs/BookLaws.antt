@@ -1,5 +1,5 @@
--- The laws of the lanes' lists of visits as a book: the lists are lawful, and the lanes' models (values in the proofs)
--- are those that the entries give.
+-- The laws of the lanes' lists of visits as a book: the lists are lawful, and the models (lanes' values in the proofs)
+-- have the values that the entries give.
 use Rattle.std.specs.Prelude.{◌≡◌, ℕ, ◌+◌, ◌*◌, ◌<◌, ◌≤◌, IsTrue, Option, Some, None, List, length, take, replicate, slice_get}
 use Rattle.std.specs.List.{fold}
 use Rattle.key_names.specs.declared.entries.BaseEntry.{BaseEntry}

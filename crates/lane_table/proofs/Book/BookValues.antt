@@ -1,6 +1,6 @@
--- Suppose that the lists are lawful and closed. Before each place, the models (values in the proofs) of the pool and
--- the base are those that the earlier entries give. The key that a visit hands on has the value that the list gives for
--- the visit's place.
+-- Suppose that the lists are lawful and closed. Before each place, the models (lanes' values in the proofs) of the pool
+-- and the base have the values that the earlier entries give. The key that a visit hands on has the value that the list
+-- gives for the visit's place.
 use Rattle.std.proofs.Common.{◌≡◌, ℕ, ◌≤◌, ◌<◌, List, length, take, refl, sym, ap, ◌∙◌, arith, Some}
 use Rattle.std.specs.Prelude.{slice_get, IsTrue}
 use Rattle.std.proofs.lemmas.Option.{slice_get_within}
