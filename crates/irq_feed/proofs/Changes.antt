@@ -1,4 +1,4 @@
--- A function of feeders, with its value changed for one feeder.
+-- A function that gives each feeder a value, with the value of one feeder changed.
 use Rattle.std.proofs.Common.{◌≡◌, ◌≢◌, ◌⊎◌, inl, inr, ⊎_elim, ℕ, ◌==◌, cond, eq-eqb, ne_eqb, refl, ap}
 use Rattle.std.proofs.lemmas.Bool.Decides.{eqb_tells}
 

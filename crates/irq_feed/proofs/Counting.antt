@@ -8,7 +8,7 @@ use Rattle.irq_feed.specs.Feeds.{Numbers}
 use Rattle.irq_feed.specs.Samples.{sample, first_samples, of_feeder}
 use Rattle.irq_feed.specs.Fed.{sum_below}
 
--- ---- sums
+-- ---- Sums over the numbers below `n`
 
 pub sum_same : (n : ℕ) (g h : ℕ → ℕ) → ((f : ℕ) → f < n → g f ≡ h f) → sum_below n g ≡ sum_below n h
 sum_same zero g h e = refl
@@ -60,7 +60,7 @@ sum_one (suc n) k low = ⊎_elim
     let b : one_at k n ≡ 0 = ap (λ t. cond t 1 0) t.0 in omega arith)
     (eqb_tells k n)
 
--- ---- lists
+-- ---- The samples of one feeder in a list
 
 pub of_here : (x : Sample) (xs : List Sample) (f : ℕ) → x.feeder ≡ f → of_feeder f (x ∷ xs) ≡ x ∷ of_feeder f xs
 of_here x xs f e = ap (λ b. cond b (x ∷ of_feeder f xs) (of_feeder f xs)) (eq-eqb x.feeder f e)

@@ -27,8 +27,8 @@ dumps_append : (xs ys : List CpuEntry) → dumps_in (xs ++ ys) ≡ dumps_in xs +
 dumps_append [] ys = omega arith
 dumps_append (x ∷ xs) ys = (let rest = dumps_append xs ys in omega arith)
 
--- the lists of the CPU and of the pool after the interrupts of these samples at moment 0. There were `q` dumps so far,
--- and `r` samples since the last dump
+-- `cpu` and `pool` are the lists of the CPU and of the pool after an interrupt of each of `samples`, at moment 0. There
+-- were `q` dumps so far, and `r` samples since the last dump
 pub record Dumped (samples : List Sample) (cpu : List CpuEntry) (pool : List PoolEntry) : Type 0 where
   pub q : ℕ
   pub r : ℕ
@@ -58,7 +58,7 @@ pub dumps_are : (samples : List Sample) (cpu : List CpuEntry) (pool : List PoolE
     length samples / 1024 ≡ d.q
 dumps_are samples cpu pool d = ap (λ n. n / 1024) d.many ∙ div-mul-add d.q 1024 d.r d.low
 
--- ---- one interrupt more
+-- ---- The lists after one more interrupt
 
 more_count : (f : FastPool) (r : ℕ) → f.count ≡ r → r < 1024 → count_next f ≡ r + 1
 more_count f r is low =

@@ -1,5 +1,5 @@
--- The entries that some steps have in the lists of the CPU and of the pool, at the places of the steps' marks. These
--- places follow one another.
+-- The entries that the steps of a call have in the lists of the CPU and of the pool. Each entry is at the place of its
+-- step's mark, and these places follow one another.
 use Rattle.std.proofs.Common.{◌≡◌, ℕ, suc, ◌+◌, List, [], ◌∷◌, ◌++◌, length, refl, sym, ap, ◌∙◌, subst, arith, Bool, true, false, cond, nat_eq, append_assoc, Some, None, Option}
 use Rattle.std.specs.Prelude.{slice_get}
 use Rattle.std.proofs.lemmas.Bool.{eqb-true, ne_eqb}
@@ -34,7 +34,7 @@ pool_seen (at_base v ∷ ds) = pool_seen ds
 pool_seen (at_cpu v ∷ ds) = pool_seen ds
 pool_seen (nothing_there ∷ ds) = pool_seen ds
 
--- each step has an effect
+-- each effect is a look, or a visit that the lists have
 abbrev pub AllThere : List Effect → Type 0
 AllThere [] = Unit {0}
 AllThere (looked g ∷ ds) = AllThere ds
@@ -50,12 +50,13 @@ rest_there (at_base v) ds t = t
 rest_there (at_cpu v) ds t = t
 rest_there nothing_there ds t = absurd t
 
--- the pairs `xs` have the places from `i` on, and the list has their entries at these places
+-- the pairs `xs` of a place and an entry have the places from `i` on, and the list `es` has their entries at these
+-- places
 abbrev pub Counts : {E : Type 0} → List E → ℕ → List (ℕ × E) → Type 0
 Counts es i [] = Unit {0}
 Counts es i (x ∷ xs) = (x.0 ≡ i) × (slice_get es i ≡ Some x.1) × Counts es (suc i) xs
 
--- the places of marks count up from `i`
+-- the places of the marks are `i`, `i + 1` and so on
 abbrev pub CountUp : ℕ → List Mark → Type 0
 CountUp i [] = Unit {0}
 CountUp i (m ∷ ms) = (m.place ≡ i) × CountUp (suc i) ms
@@ -73,7 +74,7 @@ parts_count i (x ∷ xs) ys c =
     ((c.0, rest.0), subst (λ k. CountUp k ys) same rest.1)
 
 -- there are as many marks `ms` as pairs `xs`. If the marks' places count up from `i`, so do the places of the pairs,
--- and the list has the pairs' entries there
+-- and the list `es` has the pairs' entries at these places
 pub record Seen {E : Type 0} (es : List E) (ms : List Mark) (xs : List (ℕ × E)) : Type 0 where
   pub counts : (i : ℕ) → CountUp i ms → Counts es i xs
   pub many : length ms ≡ length xs
@@ -85,7 +86,7 @@ one_seen es m e ms xs there rest = record {
   many = ap suc rest.many;
 }
 
--- a prefix of a list can be extended by the list's next entry
+-- if `front` is a prefix of `es`, and `e` is the next entry of `es`, then `front` followed by `e` is a prefix, too
 pub next_entry : {E : Type 0} (es front rest : List E) (e : E) → es ≡ front ++ rest →
     slice_get es (length front) ≡ Some e → (more : List E) × (es ≡ (front ++ e ∷ []) ++ more)
 next_entry {E = E} es front rest e is there =
@@ -97,7 +98,7 @@ next_entry {E = E} es front rest e is there =
     go [] (y ∷ ys) at = let same : y ≡ e = cc in (ys, ap (λ x. x ∷ ys) same)
     go (x ∷ xs) ys at = go xs ys at
 
--- the effect at a place, if an entry is there
+-- the effect of the pool's visit at `place`, if the pool's list has an entry at that place
 abbrev pool_effect : Lists → ℕ → Option PoolEntry → Effect
 pool_effect lists place o = effect_or (λ e. at_pool (pool_visit lists place e)) o
 

@@ -1,4 +1,4 @@
--- The book that the samples of some feeders leave on a new table.
+-- The book of a new table after one interrupt for each sample of some feeders.
 use Rattle.std.proofs.Common.{◌≡◌, ◌⊎◌, inl, inr, ⊎_elim, ℕ, suc, ◌+◌, ◌*◌, ◌/◌, ◌<◌, ◌≤◌, ◌^◌, List, [], ◌∷◌, ◌++◌, length, map, take, refl, sym, ap, ◌∙◌, subst, arith, true, false, cond, nat_eq, length-append, append_assoc, Some, None, lit<}
 use Rattle.std.specs.Prelude.{min, Bool, IsTrue}
 use Rattle.std.specs.List.{AllByRecursion, fold}
@@ -56,7 +56,7 @@ use Rattle.irq_feed.proofs.Entries.{AllThere, CountUp, Counts, count_up, cpu_her
 abbrev set : CallSetting
 set = setting_of (first_setting 0)
 
--- ---- the effect of one call
+-- ---- The effects of the call that makes one interrupt
 
 -- the steps after a credit are no visits of the CPU, and do not change the bits
 record Crossed (rest : List Effect) : Type 0 where
@@ -110,7 +110,7 @@ true_of true t = refl
 true_of false t = absurd cc
 
 module _ (fast : ℕ → ℕ → FastPool) (x : Sample) (effects : List Effect) (form : IrqForm set x.v1 x.v2 effects) where
-  -- if no dump is due, no dump is made
+  -- if the sample of a call makes no dump due, the call makes no dump
   no_dump : AllByRecursion (IsQuiet fast) effects → (form.rest ≡ []) ⊎ DumpForm set form.rest → QuietCall fast x effects
   no_dump quiet (inl bare) =
       let whole : effects ≡ at_cpu form.sample ∷ [] = form.effects_are ∙ ap (λ l. at_cpu form.sample ∷ l) bare in
@@ -179,7 +179,7 @@ all_there : (fast : ℕ → ℕ → FastPool) (x : Sample) (effects : List Effec
 all_there fast x effects (inl c) = subst AllThere (sym c.effects_are) tt
 all_there fast x effects (inr c) = subst AllThere (sym c.effects_are) c.crosses.there
 
--- ---- one call after others
+-- ---- The entries of one more call
 
 abbrev seconds : {E : Type 0} → List (ℕ × E) → List E
 seconds xs = map (λ x. x.1) xs
@@ -254,7 +254,7 @@ module _ (lists : Lists) (fast : ℕ → ℕ → FastPool)
     call_more (inl q) = quiet_call q
     call_more (inr d) = due_call d
 
--- ---- all calls
+-- ---- The entries of all calls
 
 module _ (visits : ℕ → List Visit) where
   abbrev lists : Lists
@@ -297,7 +297,7 @@ module _ (visits : ℕ → List Visit) where
       )
 
   module _ (fast_is : (i : ℕ) → i ≤ length (cpu_list lists 0) → fast 0 i ≡ fast_after (take i (cpu_list lists 0))) where
-    -- the lists of the CPU and of the pool begin with the entries that the calls of these samples left
+    -- the lists of the CPU and of the pool begin with the entries that the calls for `samples` left
     record LeftBy (samples : List Sample) (cpu_long pool_long : ℕ) : Type 0 where
       pub cpu : List CpuEntry
       pub cpu_rest : List CpuEntry
@@ -377,7 +377,7 @@ module _ (visits : ℕ → List Visit) where
         subst (λ (t : List Sample × ℕ × ℕ). LeftBy t.0 t.1 t.2)
         (λ i. (append_assoc samples (x ∷ []) xs i, c i, p i)) all
 
--- ---- the table at its end
+-- ---- The table after all its visits
 
 front_is_all : {E : Type 0} (es front rest : List E) → es ≡ front ++ rest → length front ≡ length es → front ≡ es
 front_is_all es front [] is long = sym (append-nil front) ∙ sym is

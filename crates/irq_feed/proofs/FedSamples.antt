@@ -1,5 +1,5 @@
--- Lines of a transcript for the calls that mixed some samples. The proof that the samples of the table's book are
--- lawful uses these lines.
+-- Lines of a transcript for the calls that made interrupts of samples. The proof that the samples of the table's book
+-- are lawful uses these lines.
 use Rattle.std.proofs.Common.{◌≡◌, ℕ, suc, ◌+◌, ◌≤◌, inl, inr, List, [], ◌∷◌, ◌++◌, sym, ap, ◌∙◌, subst, refl, arith, Some}
 use Rattle.std.specs.Prelude.{slice_get}
 use Rattle.std.specs.List.{AllByRecursion, flat_map}
@@ -38,13 +38,13 @@ marks_are : (event : ℕ) (calls : List (List Step)) → flat_map line_marks (li
 marks_are event [] = refl
 marks_are event (steps ∷ calls) = ap (λ (l : List MarkBy). marks_from 0 event 0 steps ++ l) (marks_are (suc event) calls)
 
--- the event of each line is `event` or a later one
+-- the event number of each line is `event` or greater
 number_from : (event : ℕ) (calls : List (List Step)) (a : SeenLine) → IsIn a (lines event calls) → event ≤ a.event
 number_from event [] a here = absurd here
 number_from event (steps ∷ calls) a (inl is) = let e = ap (λ (l : SeenLine). l.event) is in omega arith
 number_from event (steps ∷ calls) a (inr there) = let up = number_from (suc event) calls a there in omega arith
 
--- two lines with the same event are the same line
+-- two lines with the same event number are the same line
 one_line : (event : ℕ) (calls : List (List Step)) (a b : SeenLine) → IsIn a (lines event calls) →
     IsIn b (lines event calls) → a.event ≡ b.event → a ≡ b
 one_line event [] a b x y same = absurd x

@@ -21,7 +21,7 @@ use Rattle.irq_feed.specs.Passes.{known, took, taken_of, AreNew, IsPassOf}
 use Rattle.irq_feed.specs.Fed.{mixed_in, is_direct, sum_below, through_queue, by_worker, done_so_far, IsAmong, HasBegun, CanStart, CanTakeBack, Front, HasDrained, HasRoom, AllMixed}
 use Rattle.irq_feed.proofs.Counting.{sum_small, products_small, sum_same, sum_tight, sum_plus, counted, none_after, cons_not_nil, of_here, first_length, first_own, first_else, front_whole, front_none, front_short}
 
--- ---- the samples of a feeder that are done
+-- ---- The samples of a feeder that were mixed so far
 
 low_or_high : (f n : ℕ) → (f < n) ⊎ (n ≤ f)
 low_or_high f n = by (nat_lt f n) refl
@@ -100,7 +100,8 @@ module _ (feeds : Numbers) (d : ℕ → Bool) (taken items : List Sample) (pushe
       by near true e = none_of f (ends f near e) ∙ sym (done_late feeds d 0 f near e (omega arith))
       by near false e = whole f near e ∙ sym (done_through feeds d 0 f near e)
 
--- if `xs` has no sample of a direct feeder, each sample of `xs` is of a feeder that is not direct
+-- if `xs` has no sample of a direct feeder (one whose samples the worker itself mixes), each sample of `xs` is of a
+-- feeder that is not direct
 came_through : (d : ℕ → Bool) (xs : List Sample) → ((f : ℕ) → d f ≡ true → of_feeder f xs ≡ [])
     → AllByRecursion (λ (x : Sample). d x.feeder ≡ false) xs
 came_through d [] none = tt
@@ -111,7 +112,7 @@ came_through d (x ∷ xs) none =
     by true e = absurd (cons_not_nil x (of_feeder x.feeder xs) (sym (of_here x xs x.feeder refl) ∙ none x.feeder e))
     by false e = e
 
--- ---- the feeders that ended
+-- ---- The feeders whose passes the worker took in (`Ended`)
 
 among_all : (P : Ended → Type 0) (e : Ended) (es : List Ended) → AllByRecursion P es → IsAmong e es → P e
 among_all P e [] all here = absurd here
@@ -127,7 +128,7 @@ among_last : (e : Ended) (es : List Ended) → IsAmong e (es ++ e ∷ [])
 among_last e [] = inl refl
 among_last e (x ∷ xs) = inr (among_last e xs)
 
--- ---- starting feeders
+-- ---- The start of one feeder after the other
 
 pub first_start : (q : FeedQueue) (feeds : Numbers) (w : FeedPass) (m : Mixed) → AreNew q feeds w → mixed_in m ≡ []
     → vec_capacity m.samples ≡ feeds.feeders * feeds.each
@@ -161,7 +162,8 @@ has_pass q feeds n owed w w' m near h of_queue is = (
   },
 )
 
--- after the flag of feeder `n` is written, `n` has the new flag and the feeders below `n` keep theirs
+-- after the flag of feeder `n` is set to `b`, the flag is `b`, and the flags of the feeders below `n` are unchanged. A
+-- flag is true if the feeder is direct: the worker itself mixes its samples
 pub now_is : (ds : List Bool) (n : ℕ) (b : Bool) → n < length ds → slice_index_or (set ds n b) n false ≡ b
 now_is ds n b low = get_or-set_same ds n b false low
 
@@ -169,7 +171,7 @@ pub still_is : (ds : List Bool) (n : ℕ) (b : Bool) (f : ℕ) → f < n
     → slice_index_or (set ds n b) f false ≡ slice_index_or ds f false
 still_is ds n b f low = get_or-set_other ds n f b false (λ e. absurd (omega arith))
 
--- once it is known whether feeder `n` is direct, the next feeder can start
+-- once it is known whether feeder `n` is direct (the worker itself mixes its samples), the next feeder can start
 module _ (q : FeedQueue) (feeds : Numbers) (n owed : ℕ) (w : FeedPass) (m m' : Mixed) (b : Bool)
     (h : CanTakeBack q feeds n owed w m) (samples : m'.samples ≡ m.samples) (here : is_direct m' n ≡ b)
     (same : (f : ℕ) → f < n → is_direct m' f ≡ is_direct m f) where
@@ -235,7 +237,7 @@ owed_small q feeds n next owed w m h =
     at_most_each true = omega arith
     at_most_each false = omega arith
 
--- the list has room for all samples from the queue
+-- the list of mixed samples has room for all samples that come through the queue
 pub owed_room : (q : FeedQueue) (feeds : Numbers) (n owed : ℕ) (w : FeedPass) (m : Mixed)
     → n ≡ feeds.feeders → HasBegun q feeds n n owed w m → owed ≤ vec_capacity m.samples
 owed_room q feeds n owed w m all h =
@@ -248,7 +250,7 @@ owed_room q feeds n owed w m all h =
     at_most_each true = omega arith
     at_most_each false = omega arith
 
--- ---- the end of the samples from the queue
+-- ---- After the last sample from the queue
 
 pub drained : (q : FeedQueue) (feeds : Numbers) (n owed : ℕ) (w w' w'' : FeedPass) (m m' : Mixed) (items : List Sample)
     → n ≡ feeds.feeders → CanStart q feeds n owed w m → known w' ≡ with_taken (known w) (mixed_in m')
@@ -302,7 +304,7 @@ firsts_direct d feeds n zero is = tt
 firsts_direct d feeds n (suc k) is =
     all_after d (first_samples feeds n k) (sample feeds n k ∷ []) (firsts_direct d feeds n k is) (is, tt)
 
--- when feeder `n` is done too, the done samples of each other feeder are unchanged
+-- when feeder `n` is done, too, the samples of each other feeder that were mixed so far (`done_so_far`) are the same
 done_else : (feeds : Numbers) (d : ℕ → Bool) (n f : ℕ) → f ≢ n → done_so_far feeds d (n + 1) f ≡ done_so_far feeds d n f
 done_else feeds d n f differ = ap (λ b. cond (nat_lt f feeds.feeders) (cond (d f && not b) [] (first_samples feeds f feeds.each)) [])
     (⊎_elim (λ low. lt-ltb f (n + 1) (omega arith) ∙ sym (lt-ltb f n low))
@@ -341,7 +343,7 @@ record Parts (feeds : Numbers) (n : ℕ) (through directly : List Sample) (m : M
 
 module _ (feeds : Numbers) (n : ℕ) (through : List Sample) (m : Mixed) (near : n < feeds.feeders)
     (h : Front feeds n through m) where
-  -- the list has room for a direct feeder's samples
+  -- if feeder `n` is direct, the list of mixed samples has room for its samples
   pub has_room : is_direct m n ≡ true → length (mixed_in m) + feeds.each ≤ feeds.feeders * feeds.each
   has_room direct =
       let d : ℕ → Bool = is_direct m in
@@ -422,7 +424,7 @@ module _ (feeds : Numbers) (n : ℕ) (through : List Sample) (m : Mixed) (h : Fr
   pub passed_over : is_direct m n ≡ false → Front feeds (n + 1) through m
   passed_over = passes_over feeds n through m near h
 
--- ---- the end
+-- ---- After the last sample was mixed
 
 pub all_mixed : (q : FeedQueue) (feeds : Numbers) (w : FeedPass) (m m' : Mixed) → HasDrained q feeds w m
     → Front feeds feeds.feeders (mixed_in m) m' → AllMixed feeds w m'

@@ -1,4 +1,4 @@
--- Successive interrupts of samples, and the visits and entries that they leave in the lanes.
+-- Successive interrupts, one for each sample, and the visits and entries that they leave in the lanes.
 use Rattle.std.proofs.Common.{◌≡◌, ⊎_elim, ℕ, suc, ◌+◌, ◌<◌, ◌==◌, List, [], ◌∷◌, ◌++◌, map, cond, true, false, Bool, length, sym, refl, ap, ◌∙◌, subst, append_assoc, add-zero, zero-add, add-one, length-append, ◌≤◌, arith}
 use Rattle.std.proofs.lemmas.List.{append-nil, map-append}
 use Rattle.key_names.specs.declared.names.Step.{Step}
@@ -31,7 +31,7 @@ use Rattle.irq_feed.specs.Rule.{IsWorker, Popped, with_taken}
 use Rattle.irq_feed.proofs.Counting.{first_length}
 use Rattle.irq_feed.specs.Mixing.{Interrupted, Mixes, Put, irq_at, irqs_of, irq_of, places_of}
 
--- ---- successive interrupts
+-- ---- Successive interrupts (`Mixes`)
 
 pub mixes_more : (set : Called) (event : ℕ) (xs : List Sample) (x : Sample) (v u w : View) → Mixes set event xs v u
     → Interrupted set (event + length xs) x u w → Mixes set event (xs ++ x ∷ []) v w
@@ -105,7 +105,7 @@ direct_room feeds number index cap cap' xs ys before low small room same =
     let l = first_length feeds number index in
     (omega arith, omega arith)
 
--- ---- places
+-- ---- The places of a lane's visits among the steps
 
 places_same : (lane : ℕ) (made_steps : List MadeStep) →
     places_in lane made_steps ≡ places_of lane (map step_of made_steps)
@@ -160,7 +160,7 @@ irq_one set v1 v2 effects f =
     ∙ ap (λ l. (set.cpu, Irq v1 v2 set.now) ∷ l)
     (⊎_elim (λ (e : f.rest ≡ []). ap irqs_of e) (λ d. dump_none set f.rest d) f.dumps)
 
--- ---- the visits of the lanes
+-- ---- The visits that the interrupts leave in the lanes
 
 pub puts : (set : Called) (event : ℕ) (xs : List Sample) (v w : View) → Mixes set event xs v w → Put set xs v w
 puts set event [] v w same = record {

@@ -1,4 +1,4 @@
--- Each kind of step keeps the queue's rule.
+-- Each kind of step on the queue (push, pop, split, join) keeps the queue's rule.
 use Rattle.std.proofs.Common.{◌≡◌, ◌≢◌, ◌⊎◌, inl, inr, ⊎_elim, ℕ, zero, suc, ◌+◌, ◌<◌, ◌≤◌, ◌==◌, cond, List, [], ◌∷◌, ◌++◌, length, set, sym, refl, ap, ◌∙◌, subst, append_assoc, eq-eqb, ne_eqb, lt_of_not-le, arith}
 use Rattle.std.specs.Prelude.{Option, Some, None}
 use Rattle.std.specs.List.{AllByRecursion}
@@ -18,7 +18,7 @@ use Rattle.irq_feed.specs.Samples.{sample, first_samples, of_feeder}
 use Rattle.irq_feed.specs.Rule.{HasEnded, Fits, InOrder, Pushed, Popped, after_split, new_feeder, taken_in, IsWorker, IsFeeding, MayPush, no_feeds, begun, desk, post, ended, Learns}
 use Rattle.irq_feed.proofs.Changes.{same_or_not, changed, changed_here, changed_else}
 
--- ---- lists of views
+-- ---- The list of the views of all passes
 
 -- if `a` is added at the end of the list `l`, each element is one of `l`, or is `a`
 at_more : (l : List Known) (a u : Known) (j : ℕ) → get_elem? (l ++ a ∷ []) j ≡ some u
@@ -38,7 +38,7 @@ fit_set F views pass w mine others j u e =
     ⊎_elim (λ (x : (j ≡ pass) × (w ≡ u)). subst (λ (y : ℕ × Known). F y.0 y.1) (λ i. (sym x.0 i, x.1 i)) mine)
     (λ (x : (j ≢ pass) × (get_elem? views j ≡ some u)). others j u x.0 x.1) (at_set views pass j w u e)
 
--- ---- seats
+-- ---- The pass of each feeder (`seat`)
 
 no_seat : (o : Option ℕ) (a : ℕ) → o ≡ None → o ≡ Some a → ⊥
 no_seat o a none is = none-some a (sym none ∙ is)
@@ -47,7 +47,7 @@ no_seat o a none is = none-some a (sym none ∙ is)
 apart : (seat : ℕ → Option ℕ) (f g a b : ℕ) → seat f ≡ Some a → seat g ≡ Some b → b ≢ a → g ≢ f
 apart seat f g a b at bt other e = other (same_Some b a (sym bt ∙ ap seat e ∙ at))
 
--- ---- the samples of a feeder
+-- ---- The samples of one feeder in a list
 
 of_one : (x : Sample) (f : ℕ) → x.feeder ≡ f → of_feeder f (x ∷ []) ≡ x ∷ []
 of_one x f e = ap (λ b. cond b (x ∷ []) []) (eq-eqb x.feeder f e)
@@ -77,9 +77,10 @@ ordered_more feeds pushed xs x number before is f =
     ∙ ap (λ n. first_samples feeds f n) (sym (changed_else pushed number f (suc (pushed number)) other)))
     (same_or_not f number)
 
--- ---- the feeders that ended
+-- ---- The feeders whose passes the worker took in (`Ended`)
 
--- if no feeder that has ended changes, `HasEnded` still holds for each of them
+-- if the pass and the number of pushed samples are unchanged for each feeder without a pass, `HasEnded` still holds for
+-- each feeder that ended
 ends_kept : (next next' : ℕ) (seat seat' : ℕ → Option ℕ) (pushed pushed' : ℕ → ℕ) (es : List Ended) → next ≤ next'
     → ((f : ℕ) → f < next → seat f ≡ None → (seat' f ≡ None) × (pushed' f ≡ pushed f))
     → AllByRecursion (HasEnded next seat pushed) es → AllByRecursion (HasEnded next' seat' pushed') es
@@ -111,7 +112,7 @@ begins = record {
         (refl, record { feeds_are = refl; took = refl; free = λ f h. (refl, refl); ends = tt })
     only (suc pass) v at = absurd (some-ne-none v (sym at))
 
--- ---- a push
+-- ---- A feeder pushes a sample
 
 -- when the feeder with pass `j` pushes, the knowledge of each other pass stays correct
 push_kept : (feeds : Numbers) (worker : ℕ) (seat : ℕ → Option ℕ) (pushed : ℕ → ℕ) (taken : List Sample)
@@ -176,7 +177,7 @@ pushes n pass (Feeder p) x may items views room h at =
       refl,
     )
 
--- ---- a pop
+-- ---- The worker takes a sample out of the queue
 
 -- when the worker's pass takes a sample, the knowledge of each other pass stays correct
 pop_kept : (feeds : Numbers) (worker : ℕ) (seat : ℕ → Option ℕ) (pushed : ℕ → ℕ) (taken taken' : List Sample)
@@ -216,9 +217,9 @@ pops pass (Worker d) may x items views h at =
       refl,
     )
 
--- ---- a split
+-- ---- The worker splits off a pass for the next feeder
 
--- when a number without a pass gets a pass, the knowledge of each feeder stays correct
+-- when a feeder number that had no pass gets one, the knowledge of each feeder's pass stays correct
 seat_kept : (feeds : Numbers) (worker : ℕ) (seat : ℕ → Option ℕ) (pushed : ℕ → ℕ) (taken : List Sample)
     (number : ℕ) (o : Option ℕ) (k : ℕ) → seat number ≡ None → k ≢ worker → (u : Known)
     → Fits feeds worker seat pushed taken k u → Fits feeds worker (changed seat number o) pushed taken k u
@@ -308,7 +309,7 @@ tells_feeds pass v feeds is items views h at =
           (at_more vs Nobody u j e);
     }
 
--- ---- a join
+-- ---- The worker takes in the pass of a feeder
 
 -- when the pass of a feeder is taken in, the knowledge of each other feeder stays correct
 free_kept : (feeds : Numbers) (worker : ℕ) (seat : ℕ → Option ℕ) (pushed : ℕ → ℕ) (taken : List Sample)
@@ -322,7 +323,7 @@ free_kept feeds worker seat pushed taken number j k at away other (Feeder p) fit
 }
 free_kept feeds worker seat pushed taken number j k at away other Nobody fit = tt
 
--- a number that has a pass is below the next number to be given out
+-- a feeder number that has a pass is below the next number to be given out
 below_next : (seat : ℕ → Option ℕ) (pushed : ℕ → ℕ) (next number j : ℕ)
     → ((f : ℕ) → next ≤ f → (seat f ≡ None) × (pushed f ≡ 0)) → seat number ≡ Some j → number < next
 below_next seat pushed next number j free at =
@@ -378,7 +379,7 @@ joins pass (Worker d) other (Feeder p) may feeding items views h at two at' =
       fits = fit_set (Fits h.feeds h.worker seat h.pushed h.taken) vs other Nobody tt (λ j u away e. now j u e away);
     }
 
--- ---- the worker's knowledge of the queue
+-- ---- The worker's knowledge of the queue's samples
 
 ends_learned : (next : ℕ) (seat : ℕ → Option ℕ) (pushed : ℕ → ℕ) (es : List Ended)
     → AllByRecursion (HasEnded next seat pushed) es → AllByRecursion (λ (e : Ended). pushed e.feeder ≡ e.pushed) es

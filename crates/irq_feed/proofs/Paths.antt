@@ -28,7 +28,7 @@ use Rattle.irq_feed.specs.declared.samples.Sample.{Sample}
 use Rattle.irq_feed.specs.Mixing.{Mixes, in_event}
 use Rattle.irq_feed.specs.TableFeed.{marks_of}
 
--- the steps of the calls that mixed some samples
+-- the steps of each call that made an interrupt of a sample in `xs`
 abbrev pub calls_in : (event : ℕ) (xs : List Sample) (v w : View) → Mixes (first_setting 0) event xs v w → List (List Step)
 calls_in event [] v w m = []
 calls_in event (x ∷ xs) v w m = m.1.steps ∷ calls_in (suc event) xs m.0 w m.2
@@ -41,9 +41,9 @@ path_in event (x ∷ xs) v w (u, one, more) =
     (path_recorded (in_event (first_setting 0) event) v u one.steps one.did.made_steps one.did.recorded)
     (path_in (suc event) xs u w more)
 
--- ---- a table of three lanes at its end
+-- ---- A table of three lanes, after all its visits
 
--- marks with climbing stamps are sorted, and so are those of one lane
+-- if the stamps of marks climb, the marks are sorted by stamp, and so are those of one lane
 all_above : (low high : ℕ) (marks : List MarkBy) → Climbs low (stamps_of marks) high →
     AllByRecursion (λ by. low ≤ by.mark.stamp) marks
 all_above low high [] climbs = tt
@@ -74,7 +74,8 @@ sorted lane low high (by ∷ marks) climbs =
     )
     go false rest = rest
 
--- if the view knows the visit of each mark, the marks of one lane have places and stamps of the lane's list
+-- if the view `w` knows the visit of each mark, each mark of the lane `lane` has the place and the stamp of a visit in
+-- that lane's list
 in_lane : (w : View) (lane : ℕ) (marks : List MarkBy) → AllByRecursion (IsKnown w) marks →
     AllByRecursion (MarksPlace (known_of w lane)) (lane_of lane marks)
 in_lane w lane [] all = tt

@@ -20,7 +20,7 @@ use Rattle.irq_feed.specs.Passes.{known, took, IsPassOf}
 abbrev pub mixed_in : Mixed → List Sample
 mixed_in m = m.samples.items
 
--- the worker mixed the feeder's samples itself, after all others
+-- whether the worker itself mixed the samples of `feeder`, after all samples from the queue
 abbrev pub is_direct : Mixed → ℕ → Bool
 is_direct m feeder = slice_index_or m.direct feeder false
 
@@ -35,21 +35,22 @@ pub record AllMixed (feeds : Numbers) (worker : FeedPass) (m : Mixed) : Type 0 w
   pub through : AllByRecursion (λ (x : Sample). is_direct m x.feeder ≡ false) (took worker)
   pub following : AllByRecursion (λ (x : Sample). is_direct m x.feeder ≡ true) directly
 
--- Before the call and during it
+-- The state before a call of `feed`, and during it
 
 -- the sum of `g` over all numbers below `n`
 abbrev pub sum_below : ℕ → (ℕ → ℕ) → ℕ
 sum_below zero g = 0
 sum_below (suc n) g = sum_below n g + g n
 
--- how many samples of a feeder come through the queue, and how many samples of it the worker mixes itself
+-- how many of its `each` samples a feeder sends through the queue. `by_worker`: how many of them the worker mixes
+-- itself
 abbrev pub through_queue : ℕ → (ℕ → Bool) → ℕ → ℕ
 through_queue each direct feeder = if direct feeder then 0 else each
 
 abbrev pub by_worker : ℕ → (ℕ → Bool) → ℕ → ℕ
 by_worker each direct feeder = if direct feeder then each else 0
 
--- the mixed samples of a feeder, once the direct feeders below `number` are done
+-- the samples of a feeder that are mixed once the direct feeders below `number` are done
 abbrev pub done_so_far : Numbers → (ℕ → Bool) → ℕ → ℕ → List Sample
 done_so_far feeds direct number feeder =
     if nat_lt feeder feeds.feeders
@@ -60,7 +61,7 @@ done_so_far feeds direct number feeder =
 abbrev pub HasRoom : Numbers → Mixed → Type 0
 HasRoom feeds m = (length (mixed_in m) + feeds.each ≤ 160000) × (length (mixed_in m) + feeds.each ≤ vec_capacity m.samples)
 
--- with this pass and this setting the worker can make its interrupts
+-- with the pass `p` and the setting `set` the worker can make its interrupts
 pub record CanMix (lanes : Lanes) (set : Setting) (p : Pass) : Type 0 where
   pub has : HoldsLanes lanes set.caller [] p
   pub cpu : set.cpu < lanes.cpus

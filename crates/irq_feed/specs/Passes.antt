@@ -9,11 +9,11 @@ use Rattle.irq_feed.specs.declared.queue.FeedPass.{FeedPass}
 use Rattle.irq_feed.specs.Feeds.{Numbers}
 use Rattle.irq_feed.specs.Rule.{begun, post}
 
--- the knowledge of a pass
+-- the knowledge of a pass of the queue
 abbrev pub known : FeedPass → Known
 known w = ruled.view w.pass
 
--- the pass is one of this queue
+-- `w` is a pass of the queue `q`
 abbrev pub IsPassOf : FeedQueue → FeedPass → Type 0
 IsPassOf q w = ruled.IsPassOf q.line w.pass
 
@@ -35,10 +35,11 @@ took w = taken_of (known w)
 abbrev pub next_number : FeedPass → ℕ
 next_number w = next_of (known w)
 
--- the queue and the worker's pass are new, for these feeds: the worker has taken no sample, and the next number is 0
+-- the queue `q` and the worker's pass `w` are new, for the feeds `feeds`: the worker has taken no sample, and the next
+-- feeder gets number 0
 abbrev pub AreNew : FeedQueue → Numbers → FeedPass → Type 0
 AreNew q feeds w = IsPassOf q w × (known w ≡ begun feeds)
 
--- the pass of a feeder of this queue, after the feeder pushed this number of samples
+-- `w` is the pass of feeder `number` of the queue `q`, after that feeder pushed `pushed` samples
 abbrev pub IsFeeder : FeedQueue → Numbers → ℕ → ℕ → FeedPass → Type 0
 IsFeeder q feeds number pushed w = IsPassOf q w × (known w ≡ Feeder (post feeds number pushed))

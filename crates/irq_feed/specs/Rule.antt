@@ -13,7 +13,7 @@ use Rattle.irq_feed.specs.declared.known.Known.TheVariants.{Worker, Feeder, Nobo
 use Rattle.irq_feed.specs.Feeds.{Numbers, numbers}
 use Rattle.irq_feed.specs.Samples.{sample, first_samples, of_feeder}
 
--- Views
+-- The knowledge of the worker and of a feeder
 
 abbrev pub desk : Numbers → List Sample → ℕ → List Ended → WorkerKnowledge
 desk feeds taken next ended = record { feeds = feeds; taken = taken; next = next; ended = ended }
@@ -24,14 +24,14 @@ post feeds number pushed = record { feeds = feeds; number = number; pushed = pus
 abbrev pub ended : ℕ → ℕ → Ended
 ended feeder pushed = record { feeder = feeder; pushed = pushed }
 
--- The rule
+-- The rule of the queue
 
--- the feeder's number was given out, no pass has this feeder number any more, and the feeder pushed `e.pushed` samples
+-- feeder `e.feeder` got its number, no pass has this number any more, and the feeder pushed `e.pushed` samples
 abbrev pub HasEnded : ℕ → (ℕ → Option ℕ) → (ℕ → ℕ) → Ended → Type 0
 HasEnded next seat pushed e = (e.feeder < next) × (seat e.feeder ≡ None) × (pushed e.feeder ≡ e.pushed)
 
--- the worker's knowledge is right: the feeds, the samples that it took, and the feeders that ended. No feeder has the
--- next number or a higher one
+-- the knowledge `d` of the worker is right: the feeds, the samples that it took, and the feeders that ended. No feeder
+-- has the next number or a higher one
 pub record IsWorkerKnowledge (feeds : Numbers) (seat : ℕ → Option ℕ) (pushed : ℕ → ℕ) (taken : List Sample) (d : WorkerKnowledge)
     : Type 0 where
   pub feeds_are : d.feeds ≡ feeds
@@ -39,7 +39,7 @@ pub record IsWorkerKnowledge (feeds : Numbers) (seat : ℕ → Option ℕ) (push
   pub free : (feeder : ℕ) → d.next ≤ feeder → (seat feeder ≡ None) × (pushed feeder ≡ 0)
   pub ends : AllByRecursion (HasEnded d.next seat pushed) d.ended
 
--- a feeder's knowledge is right, and `pass` is the pass that has the feeder's number
+-- the knowledge `p` of a feeder is right, and `pass` is the pass that has the feeder's number
 pub record IsFeederKnowledge (feeds : Numbers) (seat : ℕ → Option ℕ) (pushed : ℕ → ℕ) (pass : ℕ) (p : FeederKnowledge) : Type 0 where
   pub feeds_are : p.feeds ≡ feeds
   pub mine : seat p.number ≡ Some pass
@@ -62,21 +62,21 @@ pub record InOrder (items : List Sample) (views : List Known) : Type 0 where
   pub bounded : (feeder : ℕ) → pushed feeder ≤ feeds.each
   pub fits : (pass : ℕ) (v : Known) → get_elem? views pass ≡ some v → Fits feeds worker seat pushed taken pass v
 
--- The kinds of step
+-- The knowledge of a pass after each kind of step
 
--- a push: the feeder has pushed one more sample
+-- after a push the feeder knows that it pushed one more sample
 abbrev pub Pushed : Known → Sample → Known → Type 0
 Pushed (Worker d) x w = ⊤
 Pushed (Feeder p) x w = w ≡ Feeder (post p.feeds p.number (p.pushed + 1))
 Pushed Nobody x w = ⊤
 
--- a pop: the worker has taken one more sample
+-- after a pop the worker knows that it took the sample `x`, too
 abbrev pub Popped : Known → Sample → Known → Type 0
 Popped (Worker d) x w = w ≡ Worker (desk d.feeds (d.taken ++ x ∷ []) d.next d.ended)
 Popped (Feeder p) x w = ⊤
 Popped Nobody x w = ⊤
 
--- a split: a new feeder gets the next number
+-- after a split the worker knows that the next number was given to a new feeder
 abbrev pub after_split : Known → Known
 after_split (Worker d) = Worker (desk d.feeds d.taken (d.next + 1) d.ended)
 after_split (Feeder p) = Feeder p
@@ -87,7 +87,8 @@ new_feeder (Worker d) = Feeder (post d.feeds d.next 0)
 new_feeder (Feeder p) = Nobody
 new_feeder Nobody = Nobody
 
--- a join: the worker takes in a feeder's pass
+-- after a join the worker knows that the feeder whose pass it took in has ended, and how many samples that feeder
+-- pushed
 abbrev pub taken_in : Known → Known → Known
 taken_in (Worker d) (Worker e) = Worker d
 taken_in (Worker d) (Feeder p) = Worker (desk d.feeds d.taken d.next (d.ended ++ ended p.number p.pushed ∷ []))
@@ -101,7 +102,7 @@ with_taken (Worker d) xs = Worker (desk d.feeds xs d.next d.ended)
 with_taken (Feeder p) xs = Feeder p
 with_taken Nobody xs = Nobody
 
--- whether a pass is the worker's or a feeder's
+-- the view is the worker's. `IsFeeding`: the view is a feeder's
 abbrev pub IsWorker : Known → Type 0
 IsWorker (Worker d) = ⊤
 IsWorker (Feeder p) = ⊥
@@ -118,15 +119,15 @@ MayPush (Worker d) x = ⊥
 MayPush (Feeder p) x = (p.pushed < p.feeds.each) × (x ≡ sample p.feeds p.number p.pushed)
 MayPush Nobody x = ⊥
 
--- the worker's first view, without feeds
+-- the worker's view before it knows any feeds
 abbrev pub no_feeds : Known
 no_feeds = Worker (desk (numbers 0 0 0) [] 0 [])
 
--- the start: the worker knows these feeds
+-- the worker's view of a new queue for the feeds `feeds`
 abbrev pub begun : Numbers → Known
 begun feeds = Worker (desk feeds [] 0 [])
 
--- The worker's knowledge of the queue at any moment
+-- The facts that the rule gives the worker about the queue's samples at any moment
 
 pub record Learned (d : WorkerKnowledge) (items : List Sample) : Type 0 where
   pub pushed : ℕ → ℕ

@@ -19,7 +19,7 @@ use Rattle.irq_feed.specs.declared.samples.Sample.{Sample}
 use Rattle.irq_feed.specs.declared.table_feed.FeedSums.{FeedSums}
 use Rattle.irq_feed.specs.Samples.{numbers, first_samples, of_feeder}
 
--- the effects of each call's steps are those of one interrupt, with the words of the call's sample
+-- for each sample, the effects of the call's steps are those of one interrupt with the sample's words
 abbrev pub AreCalls : Lists → List Sample → List (List Step) → Type 0
 AreCalls lists [] [] = Unit {0}
 AreCalls lists [] (steps ∷ calls) = ⊥
@@ -28,12 +28,12 @@ AreCalls lists (x ∷ xs) (steps ∷ calls) =
     IsOutcomeOf (setting_of (first_setting 0)) (IrqEvent x.v1 x.v2) Done no_data (effects_of lists steps)
     × AreCalls lists xs calls
 
--- the visits of these calls, in events numbered from `event` on
+-- the marks of the visits of the calls in a list; the calls are the events `event`, `event + 1` and so on
 abbrev pub marks_of : ℕ → List (List Step) → List MarkBy
 marks_of event [] = []
 marks_of event (steps ∷ calls) = marks_from 0 event 0 steps ++ marks_of (suc event) calls
 
--- the interrupts in a CPU's list, and the number of dumps in the list
+-- `irqs_in`: the interrupts in a CPU's list. `dumps_in`: the number of dumps in the list
 abbrev pub irq_here : CpuEntry → List CpuEntry
 irq_here (Irq v1 v2 now) = Irq v1 v2 now ∷ []
 irq_here (Read look refill taken) = []
@@ -74,7 +74,7 @@ pub record IsFedBook (samples : List Sample) (book : Book) : Type 0 where
   pub last : ℕ
   pub in_order : Climbs 0 (map (λ by. by.mark.stamp) (marks_of 0 calls)) last
 
--- all samples of these feeders were mixed on a new table, each once, and those of each feeder in order. The sums are
+-- all samples of the feeders were mixed on a new table, each once, and those of each feeder in order. The sums are
 -- those of the table's book, and the order of different feeders' samples does not change them
 pub record IsFed (start feeders each : ℕ) (sums : FeedSums) : Type 0 where
   pub samples : List Sample

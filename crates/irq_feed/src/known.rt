@@ -1,4 +1,4 @@
-//! The knowledge of a pass about the queue. No code makes a value of these types.
+//! The knowledge of a pass about the queue. No code makes a value of these types: they are for the proofs.
 
 use crate::samples::{Feeds, Sample};
 use std::collections::LinkedList;
@@ -24,7 +24,7 @@ pub struct FeederKnowledge {
     pub pushed: u32,
 }
 
-/// The knowledge of a pass.
+/// The knowledge of a pass of the queue.
 pub enum Known {
     Worker(WorkerKnowledge),
     Feeder(FeederKnowledge),

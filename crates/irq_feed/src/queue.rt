@@ -46,7 +46,7 @@ impl Outcome<Sample, Known> for Pop {
     ghost then = { Popped };
 }
 
-/// The worker learns which samples were pushed.
+/// The worker learns which samples of each feeder were pushed.
 struct PushReport;
 
 impl Lesson<Sample, Known> for PushReport {
@@ -88,7 +88,7 @@ impl Naming for Brand {
     ghost feeds = { numbers 0 0 0 };
 }
 
-/// The worker learns the feeds.
+/// The worker learns the feeds: how many feeders there are, and which samples they have.
 struct Begin<F: Naming> {
     of: PhantomData<F>,
 }
@@ -126,7 +126,7 @@ fn tell_feeds<F: Naming>(queue: &FeedQueue, worker: &mut FeedPass, _feeds: &Feed
 }
 
 impl FeedQueue {
-    /// An empty queue for these feeds, and the worker's pass, which has taken no sample and gives out number 0 next.
+    /// Makes an empty queue for `feeds`, and the worker's pass, which has taken no sample and gives out number 0 next.
     ///
     /// # Errors
     ///
@@ -141,7 +141,7 @@ impl FeedQueue {
         Ok((queue, worker))
     }
 
-    /// A pass for the next feeder.
+    /// Makes a pass for the next feeder.
     pub(crate) fn next(&self, worker: &mut FeedPass) -> FeedPass
         requires worker { IsPassOf self.now worker.old × IsWorker (known worker.old) }
         ensures worker { IsPassOf self.now worker.new × (known worker.new ≡ after_split (known worker.old)) }

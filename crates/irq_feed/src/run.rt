@@ -145,7 +145,7 @@ fn drain_feeders<R: Threads + Wait + Sync, G: Gate>(
     hand
 }
 
-// Starts the feeders from this number on, and mixes all samples that come through the queue.
+// Starts the feeders from number `number` on, and mixes all samples that come through the queue.
 fn start_rest<'s, E, R: Threads + Wait + Sync, G: Gate>(
     rt: &'s R,
     scope: &Scope<'s, E>,

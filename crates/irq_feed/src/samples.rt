@@ -70,7 +70,7 @@ impl Feeds {
         self.each
     }
 
-    /// A sample of a feeder.
+    /// Sample `index` of feeder `feeder`.
     pub fn sample(&self, feeder: u32, index: u32) -> Sample
         ensures { result ≡ sample self.now feeder index }
     {

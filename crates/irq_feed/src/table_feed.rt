@@ -22,18 +22,18 @@ const DUMP_BITS: u32 = 16;
 /// The most bits of the pool.
 const MOST_BITS: u32 = 256;
 
-/// The sums over the samples of some feeders.
+/// The sums that `feed_on_new_table` returns.
 #[derive(Clone, Copy, Debug, PartialEq, Eq)]
 pub struct FeedSums {
     /// The number of mixed samples.
     pub samples: u32,
     /// The number of the CPU's dumps.
     pub dumps: u32,
-    /// The bits of the pool after these dumps.
+    /// The bits credited to the pool after all dumps.
     pub bits: u32,
 }
 
-// The sums for this number of samples.
+// The sums for a number of mixed samples.
 fn sums(samples: u32) -> FeedSums
     ensures samples { result.samples ≡ samples }
     ensures dumps { result.dumps ≡ samples / 1024 }
@@ -50,6 +50,7 @@ fn sums(samples: u32) -> FeedSums
 /// Makes a table with one CPU, and feeds it as [`feed`] does, by caller 0 at moment 0. There are `feeders` feeders,
 /// with `each` samples for each. Sample `i` of feeder `f` has the words `start` + `i` and `f`. The function computes
 /// the sums from the number of samples. They are proved to be the sums over the table's visits.
+///
 /// # Errors
 ///
 /// Memory for the table, for the queue, or for the list of mixed samples ran out. Then no feeder has started.

@@ -19,7 +19,7 @@ use lane_table::{Lanes, Pass};
 use rng_core::{Setting, Site, irq};
 use std::sync::Wait;
 
-/// The worker's state.
+/// The worker's state during a call of `feed`.
 #[derive(Drop)]
 pub(crate) struct WorkerState {
     pub(crate) worker: FeedPass,

@@ -1,4 +1,4 @@
--- Each kind of step keeps the rule of the table.
+-- Each kind of atomic step keeps the rule of the table: the invariant between any two of these steps.
 pub mod RuleParts
 pub mod Plain
 pub mod Shares

@@ -26,7 +26,7 @@ abbrev pub step_of : MadeStep → Step
 step_of (looked g) = Look g
 step_of (visited mark e) = Marked mark
 
--- the view knows a visit with this mark, this maker and this entry
+-- the view `v` knows a visit with the mark `mark`, the maker `who` and the entry `e`
 pub record IsMarkOf (v : View) (mark : Mark) (who : Who) (e : LaneEntry) : Type 0 where
   pub near : index_of mark.lane < length v.lanes
   pub visit : Visit
@@ -38,8 +38,8 @@ pub record IsMarkOf (v : View) (mark : Mark) (who : Who) (e : LaneEntry) : Type 
 abbrev pub maker : ℕ → ℕ → ℕ → Who
 maker caller event step = record { caller = caller; event = event; step = step }
 
--- the view has each visit among the steps, made by this event of the caller. The first step has number `n`, and the
--- numbers rise by one from step to step
+-- the view has each visit among the steps, made by the event `event` of the caller. The first step has number `n`, and
+-- the numbers rise by one from step to step
 abbrev pub AllConform : View → ℕ → ℕ → ℕ → List MadeStep → Type 0
 AllConform v caller event n [] = ⊤
 AllConform v caller event n (looked g ∷ made_steps) = AllConform v caller event (suc n) made_steps
@@ -72,7 +72,7 @@ Climbs low (stamp ∷ stamps) high = (low < stamp) × Climbs stamp stamps high
 abbrev pub floor : View → ℕ
 floor v = max v.seen (replay (known_of v 1)).base.generation
 
--- the generation in a model of the base or of a CPU; in a model of the pool it is 0
+-- the generation in a lane's model (its value in the proofs): that of the base or of a CPU; for the pool it is 0
 abbrev pub generation_of : Model → ℕ
 generation_of s = max s.base.generation s.cpu.cpu.generation
 
@@ -89,7 +89,7 @@ Sees w low (visited mark e ∷ made_steps) high = (mid : ℕ) × (low ≤ mid)
 abbrev pub Agrees : BaseValue → Type 0
 Agrees b = (b.phase ≡ ready) ↔ (1 ≤ b.generation)
 
--- from view `v` to view `w` the pass made exactly the steps `made_steps`, in this event of the caller. The first step
+-- from view `v` to view `w` the pass made exactly the steps `made_steps`, in the caller's event `event`. The first step
 -- has number `n`
 pub record Advances (caller event n : ℕ) (v w : View) (made_steps : List MadeStep) : Type 0 where
   pub same : SameView v w

@@ -1,5 +1,5 @@
--- The laws of the lanes' lists of visits as a book: the lists are lawful, and the models have the values that the
--- entries give.
+-- The laws of the lanes' lists of visits as a book: the lists are lawful, and the models (lanes' values in the proofs)
+-- have the values that the entries give.
 use Rattle.std.specs.Prelude.{◌≡◌, ℕ, ◌+◌, ◌*◌, ◌<◌, ◌≤◌, IsTrue, Option, Some, None, List, length, take, replicate, slice_get}
 use Rattle.std.specs.List.{fold}
 use Rattle.key_names.specs.declared.entries.BaseEntry.{BaseEntry}
@@ -69,7 +69,7 @@ pub record BatchReplays (lists : Lists) (c width : ℕ) (fill : Fill) (b : Batch
   pub served : take (width * fill.count) b.bytes ≡ replicate (width * fill.count) 0
   pub rest : IsBatchOf width (cpu_used_at lists c fill.place) fill b
 
--- a CPU's model has the values that these entries of the CPU's list give
+-- the model `m` of CPU `c` has the values that the entries `es` of the CPU's list give
 pub record CpuReplays (lists : Lists) (c : ℕ) (es : List CpuEntry) (m : CpuModel) : Type 0 where
   pub cpu : m.cpu ≡ cpu.after_entries lists c es
   pub fast : m.fast ≡ fast_after es

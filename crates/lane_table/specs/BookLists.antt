@@ -1,4 +1,4 @@
--- The book of the lanes' lists of visits. Its visits leave out the keys that were received and handed on.
+-- The book of the lanes' lists of visits. A visit in the book leaves out the keys that it received and handed on.
 use Rattle.std.specs.Prelude.{ℕ, ◌+◌, ◌-◌, Option, Some, None, List, map}
 use Rattle.std.specs.List.{filter_map, range_with_len}
 use Rattle.std.specs.Option.{option_map}
@@ -43,7 +43,7 @@ entries of xs = entries_of (book_visits of xs)
 abbrev pub StateLists : Type 0
 StateLists = List (List (List VEntry))
 
--- the book of this many lanes, with these lists of vgetrandom states
+-- the book of `lanes` lanes with the lists `visits`, and with the lists `callers` of vgetrandom states
 abbrev pub book_of : ℕ → (ℕ → List Visit) → StateLists → Book
 book_of lanes visits callers = record {
   pool = book_visits pool_entry (visits 0);

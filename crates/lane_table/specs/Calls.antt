@@ -59,7 +59,7 @@ IsAway lane v = (at lane v).stage ≡ Away
 abbrev pub IsIdle : View → Type 0
 IsIdle v = (lane : ℕ) → IsAway lane v
 
--- Holds
+-- A lane that a pass holds
 
 -- the value represents the replay of the lane's known list, and the hold has the next place and the last stamp of
 -- that list
@@ -85,14 +85,14 @@ pub record CanPut (t : Lanes) (p : Pass) (h : Held) (e : LaneEntry) : Type 0 whe
   pub fits : Fits (replay (known_of (view p) h.turn.lane)) (handed h.turn.lane e (view p)) e
   pub names : MayName h.turn.lane e (view p)
 
--- this hold changed nothing: the value is the one that was taken, no entry waits for this place, and the generation was
--- not raised
+-- the hold `h` changed nothing: the value is the one that was taken, no entry of the parent lane waits for an answer at
+-- the held place, and the generation was not raised
 pub record CanLeave (t : Lanes) (p : Pass) (h : Held) : Type 0 where
   pub holds : Holds t p h
   pub value : ValueRepresents h.turn.lane h.state (replay (known_of (view p) h.turn.lane))
   pub free : OwesNothing h.turn.lane (view p)
 
--- What calls leave as it was
+-- The parts of a view that a call leaves unchanged
 
 -- these fields of a view are as before; only split and join change them
 pub record SameView (v w : View) : Type 0 where
@@ -101,7 +101,7 @@ pub record SameView (v w : View) : Type 0 where
   pub halvings : w.halvings ≡ v.halvings
   pub sized : length w.lanes ≡ length v.lanes
 
--- the pass's visits of lane `j`, and the lists that it heard there, are as before
+-- the pass's visits of lane `j`, and the lists of `j` that its joins kept (`heard`), are as before
 pub record SameHistory (j : ℕ) (v w : View) : Type 0 where
   pub made : (at j w).made ≡ (at j v).made
   pub places : (at j w).places ≡ (at j v).places
@@ -124,7 +124,7 @@ pub record SameHeldLane (j : ℕ) (v w : View) : Type 0 where
 
 -- The effects of the calls
 
--- the pass took the lane
+-- the pass took the lane `lane`, and `h` is the hold
 pub record Taken (lane : ℕ) (h : Held) (m m' : Seated) : Type 0 where
   pub of_lane : h.turn.lane ≡ lane
   pub consistent : Consistent m'.0
@@ -173,7 +173,7 @@ abbrev pub Refused : ℕ → Seated → Seated → TakeFault → Type 0
 Refused lane m m' Spent = IsSpent lane m m'
 Refused lane m m' (Busy serving ticket) = IsBusy lane serving ticket m m'
 
--- the pass did not get the lane: its state at each lane is as before, and it drew no ticket unless the lane's last
+-- the pass did not get the lane: its stage at each lane is as before, and it drew no ticket unless the lane's last
 -- stamp is 2^62 or more
 pub record Tried (lane : ℕ) (m m' : Seated) : Type 0 where
   pub consistent : Consistent m.0 → Consistent m'.0
@@ -197,7 +197,7 @@ pub record Added (lane : ℕ) (x : Visit) (m m' : Seated) : Type 0 where
   pub consistent : Consistent m'.0
   pub same : SameView m.0 m'.0
   pub here : at lane m'.0 ≡ visited x (at lane m.0)
-  -- if the entry names a place in a lane that takes its key, the pass now owes the answer at that lane
+  -- if the entry of `x` names a place in another lane, the pass now owes the answer at that lane
   pub ahead : (l b : ℕ) → ahead_of x.entry ≡ Some (l, b) → l < length m.0.lanes
       → at l m'.0 ≡ record (at l m.0) { owes = Some (length (known_of m.0 lane)) }
   pub others : (j : ℕ) → j ≢ lane → ((l b : ℕ) → ahead_of x.entry ≡ Some (l, b) → j ≢ l) → at j m'.0 ≡ at j m.0
@@ -258,7 +258,7 @@ pub record Raised (g : ℕ) (m m' : Seated) : Type 0 where
   pub stamps : m'.0.stamps ≡ m.0.stamps
   pub drawn : m'.0.drawn ≡ m.0.drawn
 
--- at the end the pass knows each lane's whole list, and has counted each visit of the list once
+-- at the table's end the pass knows each lane's whole list, and has counted each visit of the list once
 pub record Ended (lanes : ℕ) (v : View) : Type 0 where
   pub lawful : LawfulLists lanes (known_of v)
   pub closed : Closed lanes (known_of v)

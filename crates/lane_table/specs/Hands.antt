@@ -16,9 +16,9 @@ pub record HeldLane : Type 0 where
   pub ticket : ℕ
   pub place : ℕ
   pub stamp : ℕ
-  -- the place of the entry that names the held place
+  -- the place of the parent lane's entry that names the held place, if there is one
   pub owes : Option ℕ
-  -- 1 if this hold raised the generation
+  -- 1 if the pass raised the generation while it held this lane, else 0
   pub raised : ℕ
 
 abbrev pub hand : TakenTurn → Option ℕ → ℕ → HeldLane
@@ -51,7 +51,7 @@ AllInHand v (h ∷ hands) = IsInHand v h × NotIn h.lane hands × AllInHand v ha
 abbrev pub slot_of : HeldLane → ℕ × Option Content
 slot_of h = (h.lane, None)
 
--- the pass is of this table and this caller, holds exactly these lanes, and waits for no lane
+-- `p` is a pass of the table `t` and of the caller `caller`, holds exactly the lanes `hands`, and waits for no lane
 pub record HoldsLanes (t : Lanes) (caller : ℕ) (hands : List HeldLane) (p : Pass) : Type 0 where
   pub pass : IsPassOf t p
   pub own : p.caller ≡ caller
@@ -59,6 +59,6 @@ pub record HoldsLanes (t : Lanes) (caller : ℕ) (hands : List HeldLane) (p : Pa
   pub held : AllInHand (view p) hands
   pub away : (lane : ℕ) → lane < count_of t → NotIn lane hands → IsAway lane (view p)
 
--- the model of a lane, from the lane's list as the pass knows it
+-- the model of a lane (its value in the proofs), from the lane's list as the pass knows it
 abbrev pub model : Pass → ℕ → Model
 model p lane = replay (known_of (view p) lane)

@@ -5,7 +5,7 @@ use Rattle.lane_table.specs.declared.lanes.Held.{Held}
 use Rattle.lane_table.specs.contracts.lanes.Held.{the_row}
 use Rattle.lane_table.specs.contracts.values.LaneState as value
 
--- the hold with its value replaced
+-- the hold `h` with `state` as its value
 abbrev pub with_state : Held → LaneState → Held
 with_state h state = record h { state = state }
 

@@ -1,4 +1,4 @@
--- A loan of a lane's value out of its box.
+-- The loan of a lane's value that is kept in a box (`Boxed`).
 use Rattle.std.specs.Borrow.{Lends, MutBor, Fml}
 use Rattle.lane_table.specs.declared.values.LaneState.{LaneState}
 use Rattle.lane_table.specs.contracts.values.Boxed.{the_row}

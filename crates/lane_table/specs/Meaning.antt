@@ -1,6 +1,7 @@
 -- The meaning of a lane's list of visits: the lane's value after the visits, the key that each visit hands on, and the
 -- entries that may come next. The list alone determines all of it, since each visit includes the key that it received.
--- A lane's model has a part for each kind of lane, and an entry changes the part of its own kind.
+-- A lane's model (its value in the proofs) has a part for each kind of lane, and an entry changes the part of its own
+-- kind.
 use Rattle.std.specs.Prelude.{◌≡◌, ℕ, suc, ◌+◌, ◌/◌, ◌<◌, ◌≤◌, ◌==◌, ⊤, List, [], Option, Some, None, replicate, slice_index_or, if◌then◌else◌}
 use Rattle.std.specs.List.{fold}
 use Rattle.key_names.specs.declared.names.Who.{Who}
@@ -38,7 +39,7 @@ IsOf lane (Pool e) = lane ≡ 0
 IsOf lane (Base e) = lane ≡ 1
 IsOf lane (Cpu e) = 2 ≤ lane
 
--- the parent lane, from which this lane's entries take keys: the pool for the base, and the base for a CPU
+-- the parent lane of a lane, from which its entries take keys: the pool for the base, and the base for a CPU
 abbrev pub parent : ℕ → ℕ
 parent lane = if lane == 1 then 0 else 1
 
@@ -110,11 +111,11 @@ base_after (Pool e) got b = b
 base_after (Base e) got b = base.after_entry e got.key b
 base_after (Cpu e) got b = b
 
--- a CPU's generator as the base's refill makes it
+-- a CPU's generator after a refill: the key and the generation that the base hands over
 abbrev pub generator_of : Handed → CpuValue
 generator_of got = record { key = got.key; generation = got.generation }
 
--- the value of the key in use at an entry of a CPU
+-- the key in use at an entry of a CPU: the key that the entry's refill gives, or else the CPU's own
 abbrev pub cpu_used : CpuEntry → Handed → CpuValue → List ℕ
 cpu_used e got c = (refilled (base_refill_of e) (generator_of got) c).key
 
@@ -146,11 +147,11 @@ made_of s e got = record {
   least = least_after (after_of e) s.least;
 }
 
--- the key that an erasure hands on
+-- the key that an erasure of the key `used` hands on: bytes 32 to 64 of its keystream
 abbrev pub call_key : List ℕ → List ℕ
 call_key used = keystream used 32 32
 
--- the key that an entry hands on: of the pool, and then of the base and of a CPU
+-- the key that an entry of the pool hands on. Below, the same for the base and for a CPU
 abbrev pub pool_gives : PoolState → PoolEntry → Handed
 pool_gives s (Mix text bits) = nothing
 pool_gives s (Input word kind code value now) = nothing
@@ -180,7 +181,7 @@ gave_of s (Cpu e) got = cpu_gives s.cpu.cpu got e
 abbrev pub model_step : Model → Visit → Model
 model_step s x = made_of s x.entry x.got
 
--- the model of a lane after these visits
+-- the model (a lane's value in the proofs) after the visits of a list
 abbrev pub replay : List Visit → Model
 replay xs = fold model_step start_model xs
 
@@ -229,7 +230,7 @@ abbrev pub NamesWithin : ℕ → Option (ℕ × ℕ) → Type 0
 NamesWithin lanes None = ⊤
 NamesWithin lanes (Some named) = named.0 < lanes
 
--- the visit may come next in a lane with the model `s`
+-- the visit `x` may come next in the lane `lane`, if its model (the value in the proofs) is `s`
 pub record MayCome (lanes lane : ℕ) (s : Model) (x : Visit) : Type 0 where
   pub kind : IsOf lane x.entry
   pub within : NamesWithin lanes (ahead_of x.entry)
@@ -247,7 +248,7 @@ pub record PoolLaneConforms (lane : PoolLane) (s : PoolState) : Type 0 where
   pub value : lane.timer.value ≡ s.value
   pub timer : lane.timer.timer ≡ s.timer
 
--- a batch of this width with these bytes, after its last fill
+-- a batch of integers of `width` bytes, with the bytes `bytes`, after its last fill
 abbrev pub batch_of : ℕ → Option Fill → List ℕ → BatchValue
 batch_of width None bytes = record { bytes = bytes; position = 96 / width; generation = 0 }
 batch_of width (Some fill) bytes = record { bytes = bytes; position = fill.count; generation = fill.look }
@@ -255,7 +256,7 @@ batch_of width (Some fill) bytes = record { bytes = bytes; position = fill.count
 abbrev pub batch_at : ℕ → CpuModel → BatchValue
 batch_at width c = batch_of width (c.fills width) (c.bytes width)
 
--- each part of a CPU's value equals the model's, including the zeros of the batches
+-- each part of a CPU's value equals the model's. The batches are equal in the zeros that replace served bytes, too
 pub record CpuLaneConforms (lane : CpuLane) (c : CpuModel) : Type 0 where
   pub cpu : lane.cpu ≡ c.cpu
   pub b8 : lane.b8 ≡ batch_at 1 c
@@ -264,7 +265,7 @@ pub record CpuLaneConforms (lane : CpuLane) (c : CpuModel) : Type 0 where
   pub b64 : lane.b64 ≡ batch_at 8 c
   pub fast : lane.fast ≡ c.fast
 
--- the value is of the lane's kind, and represents the model
+-- the value is of the kind that the lane with this number has, and represents the model (the value in the proofs)
 abbrev pub ValueRepresents : ℕ → LaneState → Model → Type 0
 ValueRepresents lane (PoolValue value) s = (lane ≡ 0) × PoolLaneConforms value s.pool
 ValueRepresents lane (BaseLaneValue value) s = (lane ≡ 1) × (value.base ≡ s.base)
@@ -276,7 +277,7 @@ no_one = record { caller = 0; event = 0; step = 0 }
 abbrev pub no_visit : Visit
 no_visit = record { who = no_one; stamp = 0; entry = Pool Bits; got = nothing; gave = nothing }
 
--- the key that the visit at the named place hands on
+-- the key that the visit at the named place of the list `following` hands on; no key if no place is named
 abbrev pub got_of : Option ℕ → List Visit → Handed
 got_of None following = nothing
 got_of (Some place) following = (slice_index_or following place no_visit).gave

@@ -7,13 +7,13 @@ use lib.ListN.{get_elem?}
 use Rattle.lane_table.specs.declared.view.Visit.{Visit}
 use Rattle.lane_table.specs.Meaning.{LawfulLane, after_of, ahead_of, parent}
 
--- if an entry of the lane names a place of the parent lane, the visit there names this entry's place, and this entry
+-- if this lane's entry at place `b` names place `p` of the parent lane, the visit at `p` names `b`, and the entry
 -- received that visit's key
 abbrev pub Pointed : ℕ → List Visit → List Visit → Type 0
 Pointed lane following here = (b p : ℕ) (x : Visit) → get_elem? here b ≡ some x → after_of x.entry ≡ Some p
     → (y : Visit) × (get_elem? following p ≡ some y) × (ahead_of y.entry ≡ Some (lane, b)) × (x.got ≡ y.gave)
 
--- if an entry of the parent lane names a place of this lane, the visit there names that entry
+-- if the parent lane's entry at place `p` names place `b` of this lane, the visit at `b` names `p`
 abbrev pub Answered : ℕ → List Visit → List Visit → Type 0
 Answered lane following here = (p b : ℕ) (x : Visit) → get_elem? following p ≡ some x → ahead_of x.entry ≡ Some (lane, b)
     → (y : Visit) × (get_elem? here b ≡ some y) × (after_of y.entry ≡ Some p)
@@ -38,8 +38,8 @@ AllHalfAnswered lanes lists = (lane : ℕ) → 1 ≤ lane → lane < lanes
 abbrev pub LawfulLists : ℕ → (ℕ → List Visit) → Type 0
 LawfulLists lanes lists = (lane : ℕ) → lane < lanes → LawfulLane lanes lane (lists lane)
 
--- the lists of these lanes are lawful, references to parent lanes agree, and each reference ahead is answered or half
--- finished
+-- the lists of `lanes` lanes are lawful, references to parent lanes agree (`Closed`), and each reference from a parent
+-- lane is answered or half finished
 pub record ConsistentLists (lanes : ℕ) (lists : ℕ → List Visit) : Type 0 where
   pub closed : Closed lanes lists
   pub lawful : LawfulLists lanes lists

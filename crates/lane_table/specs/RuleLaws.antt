@@ -28,7 +28,7 @@ generation_word s = slice_index_or s.words 0 0
 abbrev pub IsView : St → ℕ → View → Type 0
 IsView s j v = get_elem? s.views j ≡ some v
 
--- a pass with this stage has this ticket
+-- a pass with the given stage has the ticket `t`
 abbrev pub HasTicket : TicketStage → ℕ → Type 0
 HasTicket Away t = ⊥
 HasTicket (Queued u) t = u ≡ t
@@ -55,7 +55,7 @@ pub record CountsFrom (first : ℕ) (s : St) (lane : ℕ) : Type 0 where
   pub serving : serving_of s lane + sum_by (λ a. has_ticket a.stage) (column lane s.views)
       ≡ first + sum_by (λ a. a.tickets) (column lane s.views)
 
--- whenever a pass has exactly this view, the ticket number and the serving number of each lane are both `first`
+-- whenever a pass has exactly the view `v`, the ticket number and the serving number of each lane are both `first`
 abbrev pub NumbersAre : ℕ → View → Type 0
 NumbersAre first v = (s : St) (j lane : ℕ) → WorldRule first s → IsView s j v → lane < length s.homes →
     (ticket_of s lane ≡ first) × (serving_of s lane ≡ first)
@@ -98,8 +98,8 @@ pub record Stamps (first : ℕ) (s : St) (logs : ℕ → List Visit) : Type 0 wh
   pub rising : (lane : ℕ) → lane < length s.homes → Rising first (logs lane)
   pub passed : (j : ℕ) (v : View) → IsView s j v → All (λ n. n ≤ v.stamp) v.stamps
 
--- if an entry of the parent lane names place `b` of this lane, the visit at `b` answers the entry; or the reference is
--- half finished: `b` is the next place, and a pass that holds the lane owes the answer
+-- if the parent lane's entry at place `p` names place `b` of the lane, the visit at `b` answers the entry; or the
+-- reference is half finished: `b` is the next place, and a pass that holds the lane owes the answer
 abbrev pub IsAnswered : St → (ℕ → List Visit) → ℕ → ℕ → ℕ → Type 0
 IsAnswered s logs lane p b =
     ((y : Visit) × (get_elem? (logs lane) b ≡ some y) × (after_of y.entry ≡ Some p))
@@ -128,7 +128,7 @@ pub record Generation (s : St) (logs : ℕ → List Visit) : Type 0 where
       (replay (logs lane)).cpu.cpu.generation ≤ generation_word s
   pub small : generation_word s < 2 ^ 63
 
--- Each law follows from the rule, for the lists of the rule
+-- The laws: if the rule (`WorldRule`) holds for the state `s` of a table, each part holds for `s` and the rule's lists
 
 abbrev pub EachTicketHasOneHolder : Type 0
 EachTicketHasOneHolder = (first : ℕ) (s : St) (lane : ℕ) → WorldRule first s → lane < length s.homes → Tickets s lane

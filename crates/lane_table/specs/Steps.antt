@@ -27,7 +27,7 @@ staged g a = record a { stage = g }
 abbrev pub with_drawn : View → View
 with_drawn v = record v { drawn = v.drawn + 1 }
 
--- Tickets
+-- Steps on a lane's ticket word, and loads of its serving word
 
 -- the pass drew the ticket `t` and waits with it
 abbrev pub waiting : ℕ → LaneView → LaneView
@@ -73,7 +73,7 @@ tries st m r m' = (lane : ℕ) → st.word ≡ ticket_word lane → ((at lane m.
 abbrev pub loads : Step (Option Content) → Seated → ℕ → Seated → Type 0
 loads st m r m' = (lane : ℕ) → st.word ≡ serving_word lane → ((at lane m.0).loaded ≤ r) × (m' ≡ loaded lane r m)
 
--- Turns
+-- A waiting pass whose turn comes
 
 abbrev pub longer : List Visit → List Visit → List Visit
 longer xs ys = if nat_lt (length xs) (length ys) then ys else xs
@@ -96,7 +96,7 @@ learned lists v = record v { lanes = learn_from lists 0 v.lanes }
 abbrev pub KeepsHeld : ℕ → View → View → Type 0
 KeepsHeld lane v w = (j u : ℕ) → j < length v.lanes → j ≢ lane → (at j v).stage ≡ Holding u → at j w ≡ at j v
 
--- each known list stays or grows
+-- from one view to the other, each known list stays the same or grows
 abbrev pub Grows : View → View → Type 0
 Grows v w = (j : ℕ) → j < length v.lanes → Begins (known_of v j) (known_of w j)
 
@@ -104,8 +104,8 @@ Grows v w = (j : ℕ) → j < length v.lanes → Begins (known_of v j) (known_of
 abbrev pub OwesNothing : ℕ → View → Type 0
 OwesNothing lane v = ((at lane v).owes ≡ None) × (lane ≡ 1 → (at 1 v).raised ≡ 0)
 
--- the pass's turn came, and it knows the lane's whole list. For each other lane, the pass knows at least the list that
--- this lane's value carries
+-- the turn of ticket `t` came, and the pass knows the lane's whole list. For each other lane, the pass knows at least
+-- the list that this lane's value carries
 pub record Got (lane t : ℕ) (m m' : Seated) : Type 0 where
   pub log : List Visit
   pub content : Content
@@ -125,7 +125,7 @@ abbrev pub serves : Step (Option Content) → Seated → ℕ → Seated → Type
 serves st m r m' = (lane : ℕ) → st.word ≡ serving_word lane → (t : ℕ) → (at lane m.0).stage ≡ Queued t
     → ((at lane m.0).loaded ≤ r) × (r ≤ t) × (r ≡ t → Got lane t m m') × (r ≢ t → m' ≡ m)
 
--- Visits
+-- The release of a lane, with a visit or without
 
 -- a view's part of a lane after the visit `x` of the lane
 abbrev pub visited : Visit → LaneView → LaneView
@@ -141,7 +141,8 @@ visited x a = record a {
 abbrev pub with_stamp : ℕ → View → View
 with_stamp n v = record v { stamp = n; stamps = v.stamps ++ n ∷ [] }
 
--- the view after an entry at this place: if the entry names a place of another lane, the pass owes the answer there
+-- the view after an entry at place `place` of its lane: if the entry names a place of another lane, the pass owes the
+-- answer at that lane
 abbrev pub owing : Option (ℕ × ℕ) → ℕ → View → View
 owing None place v = v
 owing (Some named) place v = with_at named.0 (record (at named.0 v) { owes = Some place }) v
@@ -151,7 +152,7 @@ abbrev pub after : ℕ → Visit → View → View
 after lane x v =
     owing (ahead_of x.entry) (length (known_of v lane)) (with_at lane (visited x (at lane v)) (with_stamp x.stamp v))
 
--- the pass holds the lane `ahead`, `place` is the next place there, and no other entry names it
+-- the pass holds the lane `ahead`; `place` is that lane's next place, and no other entry names it
 pub record NamesHeld (lane : ℕ) (v : View) (ahead place : ℕ) : Type 0 where
   pub above : 1 ≤ ahead
   pub near : ahead < length v.lanes
@@ -168,7 +169,7 @@ pub record MayName (lane : ℕ) (e : LaneEntry) (v : View) : Type 0 where
   pub following : after_of e ≡ (at lane v).owes
   pub raise : lane ≡ 1 → (at 1 v).raised ≡ raise_of e
 
--- the key that an entry of the lane receives
+-- the key that an entry of `lane` receives, from the parent lane's list as the view `v` knows it
 abbrev pub handed : ℕ → LaneEntry → View → Handed
 handed lane e v = got_of (after_of e) (known_of v (parent lane))
 
@@ -190,7 +191,7 @@ left lane m = (with_at lane (staged Away (at lane m.0)) m.0, rest m.1)
 abbrev pub leaves : Step (Option Content) → Seated → ℕ → Seated → Type 0
 leaves st m r m' = (lane : ℕ) → st.word ≡ serving_word lane → m' ≡ left lane m
 
--- The generation
+-- The view after a look at the generation
 
 abbrev pub saw : ℕ → Seated → Seated
 saw g m = (record m.0 { seen = g; looks = m.0.looks ++ g ∷ [] }, m.1)
@@ -210,7 +211,7 @@ raised g m = (record (with_at 1 (raising (at 1 m.0)) m.0) { seen = g }, m.1)
 abbrev pub raises_generation : Step (Option Content) → Seated → ℕ → Seated → Type 0
 raises_generation st m r m' = (m' ≡ raised r m) × Consistent m'.0
 
--- Passes
+-- The views after a split and after a join
 
 abbrev pub halved : View → View
 halved v = record v { halvings = v.halvings + 1 }

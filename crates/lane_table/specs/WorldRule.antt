@@ -33,7 +33,7 @@ Home = maybe.Option (maybe.Option (Option Content))
 abbrev pub St : Type 0
 St = State (Option Content) View
 
--- Lists of visits
+-- Lists of visits: prefixes, stamps and raises
 
 abbrev pub Begins : List Visit → List Visit → Type 0
 Begins xs ys = (rest : List Visit) × (ys ≡ xs ++ rest)
@@ -56,13 +56,13 @@ Rising first (x ∷ xs) = (first < x.stamp) × Rising x.stamp xs
 abbrev pub raises : List Visit → ℕ
 raises xs = sum_by (λ x. raise_of x.entry) xs
 
--- the content of the lane's slot represents the lane's list
+-- the content `c` of a lane's slot has the value, the next place and the last stamp that the lane's list `log` gives
 pub record Replays (lane first : ℕ) (log : List Visit) (c : Content) : Type 0 where
   pub value : ValueRepresents lane c.state (replay log)
   pub place : c.place ≡ length log
   pub stamp : c.stamp ≡ last_stamp first log
 
--- Views
+-- A view's part of a lane
 
 abbrev pub blank : LaneView
 blank = record {
@@ -101,7 +101,7 @@ has_ticket (Holding t) = 1
 abbrev pub Consistent : View → Type 0
 Consistent v = ConsistentLists (length v.lanes) (known_of v)
 
--- One lane
+-- The rule of one lane
 
 -- the stage of pass number j fits the lane: `owner` maps each ticket to its pass. The pass that holds the lane has
 -- the served ticket and the slot, and knows the whole list
@@ -151,7 +151,7 @@ pub record LaneOk (lane first ticket serving : ℕ) (home : Home) (col : List La
   pub known : KnownWhole col log
   pub rising : Rising first log
 
--- References
+-- References between a lane and its parent lane
 
 -- a pass that owes an answer holds the place that was named; the entry that names the place is in the parent lane's
 -- list, and the answer may name that entry
@@ -168,7 +168,7 @@ abbrev pub Owes : ℕ → ℕ → List View → Type 0
 Owes lane p views = (j : ℕ) × (v : View) × (get_elem? views j ≡ some v) × ((at lane v).owes ≡ Some p)
 
 -- if an entry of the parent lane names a place of the lane, the visit at that place names the entry; or the place is
--- the next one, and a pass owes the answer
+-- the lane's next one, and a pass owes the answer
 abbrev pub Pending : ℕ → List Visit → List Visit → List View → Type 0
 Pending lane following here views =
     (p b : ℕ) (x : Visit) → get_elem? following p ≡ some x → ahead_of x.entry ≡ Some (lane, b)
@@ -186,7 +186,7 @@ pub record Carries (lanes : ℕ) (logs : ℕ → List Visit) (lane : ℕ) (lists
   pub own : lists lane ≡ logs lane
   pub closed : Closed lanes lists
 
--- Passes
+-- The rule of one pass
 
 -- only the holder of the base can have raised the generation
 abbrev pub RaisedOk : LaneView → Type 0
@@ -205,7 +205,7 @@ pub record ViewOk (first lanes top : ℕ) (v : View) : Type 0 where
   pub closed : Closed lanes (known_of v)
   pub owed : Owed lanes v
 
--- The whole
+-- The rule of the whole table
 
 pub record WorldRule (first : ℕ) (s : St) : Type 0 where
   pub wide : length s.words ≡ words_of (length s.homes)

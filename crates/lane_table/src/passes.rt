@@ -19,7 +19,7 @@ use int_batch::Batch;
 use sample_credit::{FastPool, InputTimer};
 use std::alloc::{AllocError, Global};
 
-// A lane in its starting state.
+// The value of a lane at the start, before its first visit.
 fn start_state(lane: usize) -> LaneState
     ensures { (first : ℕ) → Replays lane first [] (record { state = result; place = 0; stamp = first }) }
 {
@@ -74,9 +74,8 @@ fn start_words(alloc: Global, count: usize, first: u64) -> Result<Vec<u64>, Allo
 }
 
 impl Lanes {
-    /// A table with this many CPUs, 1 to 256, and the pass of caller 0, which has the whole share. Each lane is in
-    /// its starting state, and the generation is 0. Stamps, tickets and serving numbers start at `first`, at most
-    /// 2^62.
+    /// Makes a table with `cpus` CPUs, 1 to 256, and the pass of caller 0, which has the whole share. Each lane is in
+    /// its starting state, and the generation is 0. Stamps, tickets and serving numbers start at `first`, at most 2^62.
     ///
     /// # Errors
     ///

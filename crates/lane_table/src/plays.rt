@@ -17,7 +17,7 @@ impl TableRule<Slot, View, TableSize> for World {
     ghost first = { first_view };
 }
 
-/// The visit that a step makes.
+/// A type that determines the visit that a step makes.
 pub trait Tells {
     ghost use Rattle.lane_table.specs.declared.view.Visit.{Visit};
 
@@ -113,7 +113,7 @@ impl Play<Slot, View> for Settle {
     ghost then = { settles };
 }
 
-/// The store of the generation word.
+/// The store of the generation word by a pass that raises the generation.
 pub struct Raise;
 
 impl Play<Slot, View> for Raise {

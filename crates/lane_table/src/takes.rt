@@ -28,7 +28,7 @@ pub(crate) fn wait_for_ever<R: Wait>(rt: &R)
     unreachable!()
 }
 
-// The hold of a lane, made from the content of its slot.
+// Makes the hold of a lane from the content of the lane's slot.
 pub(crate) fn held(lane: usize, ticket: u64, content: Content) -> Held
     requires near { lane < 258 }
     requires early { (ticket < 2 ^ 62) × (content.place ≤ content.stamp) × (content.stamp < 2 ^ 62) }

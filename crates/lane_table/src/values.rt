@@ -16,7 +16,7 @@ pub struct PoolLane {
     pub timer: InputTimer,
 }
 
-/// The base.
+/// The base (`base_crng`), as `base_gen` defines it.
 #[derive(Drop)]
 pub struct BaseLane {
     pub base: Base,

@@ -68,7 +68,7 @@ pub struct LaneView {
 /// - `first`: a bound below all stamps of the table's visits.
 /// - `share` and `halvings`: the caller's share of the table, which is `share / 2^halvings`.
 /// - `stamp`: an upper bound for the stamps of the visits that the caller made, or inherited at its split.
-/// - `stamps`: the stamps of these visits.
+/// - `stamps`: the stamps of the visits that the caller made, or inherited at its split.
 /// - `drawn`: the number of tickets that the caller drew.
 /// - `seen`: the greatest generation that the caller looked at, or raised.
 /// - `looks`: the generations that the caller looked at, in order.

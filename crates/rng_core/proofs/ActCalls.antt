@@ -1,5 +1,5 @@
--- Each act that runs at a site has the effect `DoesAct`. A wipe makes no call of the core; a read makes one call, and
--- so does a reseed.
+-- Each act (a wipe, a read or a reseed) that runs at a site (a call's table, pass, trace and setting) has the effect
+-- `DoesAct`. A read and a reseed make one call of the core each, and a wipe makes none.
 use Rattle.std.proofs.Common.{◌≡◌, ℕ, ◌+◌, Ok, List, length, refl, arith}
 use Rattle.std.specs.Prelude.{Result}
 use Rattle.key_names.specs.declared.errno.Errno.{Errno}
@@ -15,7 +15,8 @@ use Rattle.rng_core.specs.Sites.{IsNew, Does, Completes, at, most_steps}
 use Rattle.rng_core.specs.SiteWaits.{waiting_at}
 use Rattle.rng_core.proofs.ActLines.{wipe_done, read_done, reseed_done}
 
--- the effect of an act, with this answer and these bytes
+-- from site `m` to site `n` the act `act` ran, in at most `most_steps` steps; its result is `result`, and its bytes are
+-- `out`
 abbrev pub DoesAct : InsideAct → Result (Unit {0}) Errno → List ℕ → Site → Site → Type 0
 DoesAct act result out m n = Does most_steps (λ effects. ActMeans (setting_of m.set) act (done_line effects result out)) m n
 

@@ -13,7 +13,7 @@ use Rattle.rng_core.specs.Acts.{done_line}
 use Rattle.rng_core.proofs.Makings.{did_map, did_nothing}
 use Rattle.rng_core.proofs.Hosting.{none_left}
 
--- an act that reads no bytes shows no data
+-- if `out` is empty, the line of the act shows no data
 no_bytes : (result : Result (Unit {0}) Errno) (out : List ℕ) → length out ≡ 0 →
     bytes_or_none (given result out) ≡ no_data
 no_bytes (Ok x) out none = ap bytes_or_none (none_left out none)

@@ -1,5 +1,5 @@
--- Acts that run at a point extend the pass's knowledge, and do not change the caller's own steps. Each act has the
--- meaning of its line.
+-- Acts that run at a point (one of four moments of a vgetrandom call) extend the knowledge of the caller's pass, and
+-- leave the caller's own steps as they are. Each act has the meaning of its line.
 use Rattle.std.proofs.Common.{◌≡◌, ℕ, ◌≤◌, Bool, true, false, not, List, [], ◌∷◌, ◌++◌, length, map, refl, sym, ap, ◌∙◌, subst, arith, append-nil, append_assoc}
 use Rattle.std.specs.Prelude.{MatchBool, ◌&&◌, ◌||◌, ⊤}
 use Rattle.std.specs.List.{AllByRecursion, list_any}
@@ -26,7 +26,7 @@ use Rattle.rng_core.specs.Acts.{Ask, ActOutcome, ActRan, ActAt, ActsAt, done_lin
 use Rattle.rng_core.proofs.Makings.{After, did_floor, effects_then}
 use Rattle.rng_core.proofs.TellLemmas.{recorded_then, trace_then, fits_then}
 
--- the view `w` knows at least as much as `v`
+-- the view `w` has as many lanes as the view `v`, and knows at least as much
 pub record Onward (v w : View) : Type 0 where
   pub sized : length w.lanes ≡ length v.lanes
   pub grows : Grows v w
@@ -80,7 +80,7 @@ module _ (set : Setting) (point : Point) where
   acts_onward (a ∷ asks) v w (x ∷ xs) (y ∷ ys) k =
       onward_then v k.0 w (at_onward a v k.0 x y k.1) (acts_onward asks k.0 w xs ys k.2)
 
--- Looks that rise from `low` on, up to `high`
+-- The generations that successive looks find: they never fall, and lie between `low` and `high`
 
 abbrev pub Risen : ℕ → List ℕ → ℕ → Type 0
 Risen low [] high = low ≤ high
@@ -101,10 +101,10 @@ sees_risen w low high (looked g ∷ made_steps) h = (h.0, sees_risen w g high ma
 sees_risen w low high (visited mark e ∷ made_steps) h =
     risen_lower low h.0 high (looks_in made_steps) h.1 (sees_risen w h.0 high made_steps h.3)
 
--- The caller's own steps, with those of acts between them
+-- The steps that a caller makes for its vgetrandom call; acts may make steps of their own between them
 
--- from `l` to `m` the caller's own steps are `made_steps`, and P holds for their effects. If there are no acts
--- (`Alone`), the caller made no other steps
+-- from `l` to `m` the caller's own steps are `made_steps`, and P holds for their effects. If `Alone` holds (no acts run
+-- inside), the caller made no other steps
 pub record Own (set : Setting) (Alone : Type 0) (P : List Effect → Type 0) (l m : Moment) : Type 0 where
   pub made_steps : List MadeStep
   pub trace : m.steps ≡ l.steps ++ map step_of made_steps
@@ -176,10 +176,10 @@ own_after {set} l m n same onward idle k = record {
   conforms = k.conforms;
 }
 
--- The outcomes of the acts
+-- The meaning of each act's outcome (`ActOutcome`)
 
--- if an act ran, its outcome has the act's meaning in all lists that continue the known ones; else the outcome has no
--- steps
+-- if the act of the request `a` ran, its outcome `z` has the act's meaning in all lists that continue those that the
+-- view `w` knows; else `z` has no steps
 pub record Meant (set : Setting) (w : View) (a : Ask) (z : ActOutcome) : Type 0 where
   pub done : z.done ≡ true → (lanes : ℕ) (visits : ℕ → List Visit) (callers : StateLists) → Continues lanes w visits →
       ActMeans (setting_of set) a.act (done_line (effects_of (book_lists lanes visits callers) z.steps) z.answer z.bytes)
@@ -237,11 +237,11 @@ module _ (set : Setting) (point : Point) where
     meant_at asks k.0 w xs ys k.2 (all_onward set v k.0 asks xs (at_onward set point a v k.0 x y k.1) all.1),
   )
 
--- whether a call reached the point of an act
+-- whether a call that reached the points `points` reached the point of the request `a`
 abbrev pub came : List PointReached → Ask → Bool
 came points a = list_any (λ reached. is_same_point reached.point a.point) points
 
--- an act that had not run yet runs if and only if the call reached its point
+-- after a call that reached `points`, an act is done if and only if it was done before or the call reached its point
 abbrev pub AllDone : List PointReached → List Ask → List ActOutcome → List ActOutcome → Type 0
 AllDone points [] [] [] = ⊤
 AllDone points [] [] (z ∷ zs) = ⊥

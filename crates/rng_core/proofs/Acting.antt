@@ -1,4 +1,5 @@
--- The work of a caller, step by step, as the host of a vgetrandom call with acts inside.
+-- A caller as the host of a vgetrandom call with acts inside: it publishes generations, makes the call's system calls,
+-- and runs the acts at their points.
 use Rattle.std.proofs.Common.{◌≡◌, Bool, true, false, List, [], ◌∷◌, ◌++◌, length, ◌<◌, refl, sym, ap, ◌∙◌, subst, arith}
 use Rattle.std.specs.Prelude.{MatchBool, ◌&&◌, if◌then◌else◌}
 use Rattle.std.specs.List.{AllByRecursion}
@@ -32,7 +33,7 @@ step_asks s t (publishes g) k = k.acts.asks
 step_asks s t (system_call n flags answer) k = k.acts.asks
 step_asks s t (at_point point wiped) k = k.asks
 
--- if `b` is true, the acts of a point ran; otherwise nothing changed
+-- if `b` is true, the acts of `asks` that are bound to `point` ran; otherwise the view and the outcomes are unchanged
 abbrev Ran : Setting → Point → List Ask → Bool → View → View → List ActOutcome → List ActOutcome → Type 0
 Ran set point asks b v w xs ys = MatchBool b (ActsAt set point asks v w xs ys) ((ys ≡ xs) × (w ≡ v))
 
@@ -41,7 +42,7 @@ ran_onward : (set : Setting) (point : Point) (asks : List Ask) (b : Bool) (v w :
 ran_onward set point asks true v w xs ys k = acts_onward set point asks v w xs ys k
 ran_onward set point asks false v w xs ys k = onward_is v w k.1
 
--- without acts the view does not change
+-- if there are no acts (`asks` is empty), `Ran` leaves the view as it was
 ran_none : (set : Setting) (point : Point) (b : Bool) (v w : View) (xs ys : List ActOutcome) →
     Ran set point [] b v w xs ys → w ≡ v
 ran_none set point true v w [] [] k = k
@@ -58,10 +59,10 @@ step_onward s t (publishes g) k = record {
 step_onward s t (system_call n flags answer) k = did_onward _ _ _ k.core.did
 step_onward s t (at_point point wiped) k = ran_onward s.core.set point s.asks (is_first t.attempt) _ _ _ _ k.ran
 
--- Points of the attempts
+-- The points of a vgetrandom call's first attempt, and those of its later attempts
 
--- `active` gives the points that are still to come in the first attempt, and `resting` those after the first attempt.
--- Both depend on the current attempt
+-- of the points that a call still reaches, `active` gives those of the first attempt, and `resting` those after the
+-- first attempt. Both depend on the current attempt
 abbrev pub active : Attempt → List PointReached → List PointReached
 active Before points = first_points points
 active First points = before_start points
@@ -72,7 +73,7 @@ resting Before points = second_points points
 resting First points = from_start points
 resting Later points = points
 
--- Step by step
+-- A caller that does a list of the host's steps, one after the other
 
 pub acted_asks : (steps : List HostStep) (s t : ActConform) → DoesAll acting s steps t → t.asks ≡ s.asks
 acted_asks [] s t does = ap (λ (k : ActConform). k.asks) (sym does)
@@ -95,7 +96,8 @@ acted_up_to (publishes g ∷ steps) s t does =
 acted_up_to (system_call n flags answer ∷ steps) s t does = acted_up_to steps does.0 t does.2
 acted_up_to (at_point point wiped ∷ steps) s t does = acted_up_to steps does.0 t does.2
 
--- the effects of the caller's own steps are those of the host's steps, and without acts the caller makes no other steps
+-- if a caller `s` did the host's steps `steps` and became `t`, its own steps have the effects of `steps`. If `asks` is
+-- empty, it made no other steps
 pub acted_own : (steps : List HostStep) (set : Setting) (asks : List Ask) (s t : ActConform) → s.core.set ≡ set →
     s.asks ≡ asks → 1 < length s.core.moment.view.lanes → DoesAll acting s steps t
     → Own set (asks ≡ []) (Shows (setting_of set) steps) s.core.moment t.core.moment
@@ -140,8 +142,8 @@ acted_own (at_point point wiped ∷ steps) set asks s t same is_asks two does =
     (subst (λ (l : List Ask). Ran s.core.set point l (is_first does.0.attempt) s.core.moment.view
     does.0.core.moment.view s.outcomes does.0.outcomes) (is_asks ∙ none) k.ran)) own
 
--- `WipedSo`: a point of the first attempt wipes the state if and only if an act of the point is a wipe. No later point
--- wipes the state
+-- `AsAsked`: the point wipes the state if and only if an act bound to that point is a wipe. `WipedSo`: this holds for
+-- each point of the first attempt, and no later point wipes the state
 abbrev AsAsked : List Ask → PointReached → Type 0
 AsAsked asks reached = reached.wiped ≡ wipes_at asks reached.point
 
@@ -183,7 +185,8 @@ acted_wipes (at_point point wiped ∷ steps) asks attempt s t same now does =
     (k.wipes ∙ (λ i. is_first (next i) && wipes_at (same i) point))
     (acted_wipes steps asks (attempt_at attempt point) does.0 t (k.asks ∙ same) next does.2)
 
--- an act runs if and only if the first attempt reached its point
+-- if `Ran` holds for `point`, and `AllDone` for the points `points` after it, then `AllDone` holds for all of them;
+-- `point` counts only if `b` is true
 ran_done : (set : Setting) (point : Point) (wiped b : Bool) (asks : List Ask) (v w : View) (points : List PointReached)
     (xs ys zs : List ActOutcome) → Ran set point asks b v w xs ys → AllDone points asks ys zs →
     AllDone (if b then record { point = point; wiped = wiped } ∷ points else points) asks xs zs
@@ -245,7 +248,7 @@ acted_done (at_point point wiped ∷ steps) asks attempt s t same now long does 
     (ran_long s.core.set point (is_first (attempt_at attempt point)) asks _ _ s.outcomes does.0.outcomes long ran)
     does.2))
 
--- the acts that ran have their meanings
+-- if `Ran` holds from the view `v` to `w`, and the outcomes `xs` have their acts' meanings, so do the outcomes `ys`
 ran_meant : (set : Setting) (point : Point) (b : Bool) (asks : List Ask) (v w : View) (xs ys : List ActOutcome) →
     Ran set point asks b v w xs ys → AllMeant set v asks xs → AllMeant set w asks ys
 ran_meant set point true asks v w xs ys k all = meant_at set point asks v w xs ys k all
@@ -279,7 +282,7 @@ acted_meant (at_point point wiped ∷ steps) set asks s t is_set is_asks does al
     (ran_meant set point (is_first does.0.attempt) asks s.core.moment.view does.0.core.moment.view s.outcomes
     does.0.outcomes ran all)
 
--- The host over the lanes
+-- The host over the lanes (`LaneHost`) and its caller
 
 module _ {R : Type 0} where
   loans_then : (h i j : LaneHost R) → SameLoans h i → SameLoans i j → SameLoans h j
@@ -295,7 +298,7 @@ module _ {R : Type 0} where
   host_step h next (system_call n flags answer) does = does
   host_step h next (at_point point wiped) does = does
 
-  -- the steps of a host over the lanes are those of the caller itself
+  -- if the host `h` did the steps `steps` and became `last`, its caller did the same steps (`acting`)
   pub host_acts : (steps : List HostStep) (h last : LaneHost R) → DoesAll hosting h steps last →
       DoesAll acting (standing h) steps (standing last) × SameLoans h last
   host_acts [] h last does = (

@@ -1,5 +1,5 @@
--- In all lists that continue those that a pass knows, a visit that the pass made has the effect that the pass's own
--- model gives.
+-- The effect of a visit that a pass made is the one that the pass's own model of the lane (its value in the proofs)
+-- gives. This holds in all lists that continue those that the pass knows.
 use Rattle.std.proofs.Common.{◌≡◌, ℕ, ◌+◌, List, ◌++◌, take, Some, refl, ap, ◌∙◌, subst, arith}
 use Rattle.std.specs.Prelude.{slice_get}
 use Rattle.std.proofs.lemmas.List.{take-append-le}
@@ -48,7 +48,8 @@ lane_cpu PoolLane c e = absurd (omega arith)
 lane_cpu BaseLane c e = absurd (omega arith)
 lane_cpu (CpuLane d) c e = let h : d ≡ c = omega arith in ap CpuLane h
 
--- the list has the visit at its place, with this entry and this received key, after the model `s`
+-- the list `xs` has a visit at `place`, with the entry `e` and the received key `got`; the visits before it give the
+-- model `s` (the lane's value in the proofs)
 record InList (xs : List Visit) (place : ℕ) (s : Model) (e : LaneEntry) (got : Handed) : Type 0 where
   pub visit : Visit
   pub there : slice_get xs place ≡ Some visit

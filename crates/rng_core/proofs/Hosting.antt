@@ -40,7 +40,7 @@ use Rattle.lane_table.specs.BookLaws.{Continues}
 use Rattle.rng_core.specs.Makes.{Makes, IsOutcomeOf, setting_of, result_answer, given}
 use Rattle.rng_core.specs.Hosted.{is_away, IsFree, IsRead, SystemCall}
 
--- No lane held
+-- A pass that holds no lane has no slot taken out
 
 pub none_left : {A : Type 0} (xs : List A) → length xs ≡ 0 → xs ≡ []
 none_left [] e = refl
@@ -60,14 +60,14 @@ free_has t caller p k = record {
   away = λ lane low no. away_of (at lane (view p)).stage (k.away lane low);
 }
 
--- Published generations
+-- The generation that a caller publishes after a look (`published_by`)
 
 pub published_more : (a b : ℕ) → a ≤ b → published_by a ≤ published_by b
 published_more zero b h = omega arith
 published_more (suc a) zero h = absurd (omega arith)
 published_more (suc a) (suc b) h = omega arith
 
--- The answer of a system call
+-- The answer of a system call that the host makes
 
 abbrev cpu_place : LaneId → ℕ → Option CpuPlace
 cpu_place PoolLane place = None
@@ -84,8 +84,8 @@ visit_of [] = None
 visit_of (made_step ∷ []) = place_in made_step
 visit_of (made_step ∷ next ∷ made_steps) = visit_of (next ∷ made_steps)
 
--- in all lists that continue the known ones, the visit that `visit_of` finds is also the last visit of the steps'
--- effects
+-- in all lists that continue those that the view `v` knows, the visit that `visit_of` finds is also the last visit of
+-- the steps' effects
 module _ (lanes : ℕ) (v : View) (visits : ℕ → List Visit) (callers : List (List (List VEntry)))
     (k : Continues lanes v visits) where
   abbrev book : Lists
@@ -145,7 +145,7 @@ shown_bytes (x ∷ xs) = refl
 same_bytes : (xs ys : List ℕ) → bytes_or_none xs ≡ bytes_or_none ys → xs ≡ ys
 same_bytes xs ys e = sym (shown_bytes xs) ∙ ap bytes_in e ∙ shown_bytes ys
 
--- the answer of a system call that returned this result
+-- the answer of a system call with the result `result`, the bytes `bytes` and the last CPU visit `visit`
 abbrev pub answer_by : Result (Unit {0}) Errno → List ℕ → Option CpuPlace → SystemAnswer
 answer_by (Ok x) bytes visit = read bytes visit
 answer_by (Err errno) bytes visit = failed errno
@@ -155,7 +155,7 @@ pub is_answer : (result : Result (Unit {0}) Errno) (bytes : List ℕ) (visit : O
 is_answer (Ok x) bytes visit = (refl, refl)
 is_answer (Err errno) bytes visit = refl
 
--- a call without an error read its bytes
+-- if `result` is no error, `answer_by` gives the answer of a read
 pub is_read : (result : Result (Unit {0}) Errno) (bytes : List ℕ) (visit : Option CpuPlace) → IsOk result →
     IsRead (answer_by result bytes visit)
 is_read (Ok x) bytes visit ok = tt

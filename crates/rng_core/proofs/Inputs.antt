@@ -1,4 +1,4 @@
--- An input event changes the pool and its timer as one step of the pool's list (`pool_step`) does.
+-- An input event (`add_input_randomness`) changes the pool and its timer as `pool_step` does for the event's entry.
 use Rattle.std.proofs.Common.{◌≡◌, ◌≢◌, ℕ, ◌<◌, ◌≤◌, List, sym, ap, ◌∙◌, subst, arith}
 use Rattle.key_names.specs.declared.entries.PoolEntry.TheVariants.{Input}
 use Rattle.key_names.specs.Kernel.InputTimer.{InputTimer, input_timer_after, timer_bits}
@@ -29,7 +29,7 @@ module _ (s : PoolState) (word kind code value now : ℕ) (before between : Pool
   uncredited : between.bits ≡ s.bits
   uncredited = m.mixes.credited ∙ credit-none s.bits m.stood.pool.capped
 
-  -- a full pool gets no credit
+  -- if the pool is full (256 bits or more), the event credits nothing
   pub untimed : 256 ≤ between.bits → InputConforms between kept (pool_step s (Input word kind code value now))
   untimed full = let full' : 256 ≤ s.bits = (let u = uncredited in omega arith) in let e =
       pool_step-untimed s word kind code value now differs full' in record {
@@ -39,7 +39,7 @@ module _ (s : PoolState) (word kind code value now : ℕ) (before between : Pool
         timer = ap (λ (k : LastInput). k.timer) m.keeps ∙ m.stood.timer ∙ sym (ap (λ (z : PoolState). z.timer) e);
       }
 
-  -- a pool that is not full gets the timer's credit
+  -- if the pool is not full, the event credits the bits that the timer gives
   module _ (after : PoolParts) (next : LastInput) (bits : ℕ) (room : between.bits < 256)
       (worth : bits ≡ timer_bits kept.timer now) (credits : PoolConforms after (mixed_and_credited s text bits)) where
     room' : s.bits < 256

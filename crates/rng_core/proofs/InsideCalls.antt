@@ -1,4 +1,5 @@
--- The effect of a read follows from the vgetrandom call on the caller's host, with acts inside or without.
+-- The effect of a read out of a vgetrandom state follows from the vgetrandom call on the caller's host, with acts
+-- inside or without.
 use Rattle.std.proofs.Common.{◌≡◌, ℕ, ◌<◌, ◌≤◌, Bool, true, false, not, List, [], ◌∷◌, length, map, drop, refl, sym, ap, ◌∙◌, subst, arith}
 use Rattle.std.specs.Prelude.{MatchBool, ◌==◌, ◌&&◌, ◌||◌, ◌^◌, if◌then◌else◌}
 use Rattle.std.specs.List.{AllByRecursion}
@@ -43,7 +44,7 @@ use Rattle.rng_core.proofs.CallEnds.{EndsWell, call_ends}
 use Rattle.rng_core.proofs.Hosting.{none_left, free_has, published_more}
 use Rattle.rng_core.proofs.Readings.{ending_is, same_looks, never_fall}
 
--- Acts before a call
+-- Acts that no call has run yet
 
 fresh_one : (b : Bound) → IsWaitingAct b → is_ready b ≡ true
 fresh_one b k = ap (λ (x : Bool). x && (b.done || length b.trace == 0)) (le-leb (wants b.act) (2 ^ 20) k.short)
@@ -70,7 +71,7 @@ pub outcomes_long : (bounds : List Bound) (out : List ℕ) → length (outcomes_
 outcomes_long [] out = refl
 outcomes_long (b ∷ bounds) out = let e = outcomes_long bounds (drop (wants b.act) out) in omega arith
 
--- acts that did not run have empty meanings
+-- if none of the acts ran, the outcomes `xs` have the meanings of acts that did not run
 pub undone_meant : (set : Setting) (v : View) (asks : List Ask) (xs : List ActOutcome) → AllByRecursion IsUndone xs →
     length xs ≡ length asks → AllMeant set v asks xs
 undone_meant set v [] [] all long = tt
@@ -85,7 +86,7 @@ undone_meant set v (a ∷ asks) (x ∷ xs) all long = (
   undone_meant set v asks xs all.1 (omega arith),
 )
 
--- The meanings of the acts
+-- The meanings (`AllMeant`) of the acts inside a call
 
 all_fit : (set : Setting) (w : View) (asks : List Ask) (zs : List ActOutcome) → AllMeant set w asks zs →
     AllByRecursion (λ z. AllByRecursion StepFits z.steps) zs
@@ -145,7 +146,7 @@ no_local n flags set w (a ∷ asks) (z ∷ zs) some all =
     ap (λ (b : Bool). b && (not (n == 0) && not (is_bad flags)))
     (ne_eqb (length (bound_acts set (a ∷ asks) (z ∷ zs))) 0 (λ e. absurd (omega arith)))
 
--- a call on the host over the lanes; the host was `h` before the call
+-- a call of `n` bytes on the host over the lanes; the host was `h` before the call, and is `last` after it
 module _ {R : Type 0} {h last : LaneHost R} {finish : Finish} (n flags : ℕ) (s : VgetrandomState)
     (runs : Runs hosting (IsCall n flags s) h last finish) where
   abbrev from : ActConform
@@ -163,7 +164,7 @@ module _ {R : Type 0} {h last : LaneHost R} {finish : Finish} (n flags : ℕ) (s
   same_asks : asks_of last.acts.now ≡ asks_of h.acts.now
   same_asks = acted_asks runs.steps from to does
 
-  -- each step of the call is one of the caller itself
+  -- each step that the call asks of its host is a step of the caller itself (`InsideRan`)
   inside_ran : InsideRan n flags s finish.state from
       (λ attempt. act_conform (conform h.site.set last.site.pass.now last.site.trace.now) attempt
       (asks_of last.acts.now) (outcomes_of last.acts.now last.out.now))

@@ -30,7 +30,7 @@ use Rattle.rng_core.specs.Integers.{IsWidth, int_event}
 use Rattle.rng_core.proofs.Finding.{found_base, found_cpu}
 use Rattle.rng_core.proofs.Makings.{did_map, did_after_look, did_then, did_cpu, serving_looked}
 
--- the last fill determines whether a batch has to be filled
+-- whether a batch has to be filled at the generation `look` follows from its last fill `f`, whatever its bytes are
 pub wants_of : (look width : ℕ) (f : Option Fill) (bytes : List ℕ) →
     wants look width (batch_of width f bytes) ≡ must_fill look width f
 wants_of look width None bytes = wants-start look width
@@ -49,7 +49,7 @@ filled_bytes width look key some = let fill : Fill = record { key = None; place 
     next_bytes-batched_int width key fill (filled (keystream key 32 96) look) (IsBatchOf-filled width key fill refl)
     some
 
--- an integer does not change the batches of the other widths
+-- an integer of `width` bytes does not change the batch of another width `w`
 pub other_width : (w width look : ℕ) (refill : Option ℕ) (filled : Bool) (got : Handed) (c : CpuModel) → w ≢ width →
     batch_at w c ≡ batch_at w (cpu_entered (Int look refill width filled) got c)
 other_width w width look refill true got c ne = rw (ne_eqb w width ne) refl
@@ -59,7 +59,7 @@ pub generator_is : (key : List ℕ) (generation : ℕ) (got : Handed) → got.ke
     ◌≡◌ {A = CpuValue} (record { key = key; generation = generation }) (generator_of got)
 generator_is key generation got ek eg = λ i. record { key = sym ek i; generation = sym eg i }
 
--- the forms
+-- The effects of an integer have one of the integer's forms
 pub did_batch : (set : Setting) (l m n : Moment) (g place width : ℕ) (fills : Bool) (bytes : List ℕ) →
     FitsBatch width → TraceRecords set l m (went.looked g ∷ []) →
     Served set m n (set.cpu + 2) place (Cpu (Int g None width fills)) bytes
@@ -78,7 +78,7 @@ did_batch set l m n g place width fills bytes fits a x =
     }) (serving_looked {P = λ (look : ℕ). CpuOnly set.cpu (Int look None width fills)} set l m n g a
     (did_cpu set m n set.cpu place (Int g None width fills) bytes fits x))
 
--- the effects are one visit of the base (`BaseAt`) or of a CPU (`CpuAt`), with this entry at this place
+-- the effects are one visit of the base (`BaseAt`) or of a CPU (`CpuAt`), with the entry `entry` at place `place`
 record BaseAt (place : ℕ) (entry : BaseEntry) (effects : List Effect) : Type 0 where
   visit : BaseVisit
   effects_are : effects ≡ at_base visit ∷ []

@@ -37,7 +37,7 @@ use Rattle.rng_core.specs.Makes.{MakesIn, Makes, Serving, Served, IsOutcomeOf, s
 use Rattle.rng_core.proofs.TellLemmas.{recorded_then, recorded_idly}
 use Rattle.rng_core.proofs.Finding.{found_pool, found_base, found_cpu}
 
--- the generation that the pass has seen does not fall
+-- from `m` to `n` the greatest generation that the pass has seen does not fall
 pub did_floor : {P : (ℕ → List Visit) → List Effect → Type 0} (set : Setting) (m n : Moment) → MakesIn P set m n →
     floor m.view ≤ floor n.view
 did_floor set m n k = sees_up n.view (floor m.view) (floor n.view) k.made_steps k.recorded.went.sees
@@ -55,7 +55,7 @@ pub did_map : {P Q : List Effect → Type 0} (set : Setting) (m n : Moment) → 
     Makes P set m n → Makes Q set m n
 did_map set m n f k = did_in_map set m n (λ visits. f) k
 
--- effects that have a form and serve bytes have the form
+-- effects that have the form `F` and serve `bytes` have the form `F`
 pub formed : {F : List Effect → Type 0} {bytes : List ℕ} (set : Setting) (m n : Moment) →
     Makes (Serving F bytes) set m n →
     Makes F set m n
@@ -92,7 +92,8 @@ serving_looked set l m n g a k = record {
       };
 }
 
--- a visit of the pool, the base or a CPU has the form of its one entry
+-- one visit of the pool, the base or a CPU, with the entry `e`, has the form of that entry alone (`PoolOnly e` for the
+-- pool)
 pub did_pool : (set : Setting) (m n : Moment) (place : ℕ) (s : Model) (e : PoolEntry) (got : Handed) →
     Visited set m n 0 place s (Pool e) got → Makes (PoolOnly e) set m n
 did_pool set m n place s e got x = record {
@@ -126,7 +127,7 @@ did_cpu set m n cpu place e bytes fits x = record {
       };
 }
 
--- an extraction, and a visit of the base that names its root, have the form Rooted
+-- an extraction, and then a visit of the base whose entry names the extraction's place, have the form `Rooted`
 pub did_rooted : (set : Setting) (l m n : Moment) (root base : ℕ) (s : Model) (got : Handed) (entry : ℕ → BaseEntry)
     (bytes : List ℕ) → Visited set l m 0 root s (Pool (Extract set.hw base)) got →
     Served set m n 1 base (Base (entry root)) bytes
@@ -203,7 +204,7 @@ did_refilled_read set k l m n g base place s got taken bytes a x y = record {
       };
 }
 
--- a call that makes no step has no effects
+-- if P holds for an empty list of effects, a call that makes no step satisfies `Makes P`
 pub did_nothing : {P : List Effect → Type 0} (set : Setting) (m : Moment) → 1 < length m.view.lanes → P [] →
     Makes P set m m
 did_nothing set m two p = record {
@@ -215,7 +216,7 @@ did_nothing set m two p = record {
   conforms = λ lanes visits callers c. p;
 }
 
--- one look has the effect of that look
+-- if the only step from `l` to `m` is a look that found `g`, the effects are that one look
 pub did_look : (set : Setting) (l m : Moment) (g : ℕ) → TraceRecords set l m (went.looked g ∷ []) →
     Makes (λ (effects : List Effect). effects ≡ looked g ∷ []) set l m
 did_look set l m g a = record { made_steps = went.looked g ∷ []; recorded = a; conforms = λ lanes visits callers c. refl }
@@ -242,7 +243,7 @@ did_credit set l m n place s e got crossed x is k = record {
       };
 }
 
--- a visit that reads the bits completes the event
+-- a visit of the pool that reads its credited bits completes the event `bits`
 pub did_bits : (set : Setting) (m n : Moment) (place b : ℕ) (s : Model) (got : Handed) →
     Visited set m n 0 place s (Pool Bits) got → b ≡ s.pool.bits →
     Makes (IsOutcomeOf (setting_of set) BitsEvent Done (count b)) set m n

@@ -1,5 +1,5 @@
--- Each use of a caller's own state leaves entries that continue the state's list. The laws of books for all states
--- together follow from this.
+-- Each use (a read or a wipe) of a caller's own vgetrandom state leaves entries that continue the state's list. The
+-- laws of books for all states together follow from this.
 use Rattle.std.proofs.Common.{◌≡◌, ℕ, zero, suc, ◌+◌, ◌<◌, ◌≤◌, Bool, true, false, cond, eq-eqb, ne_eqb, List, [], ◌∷◌, length, map, refl, sym, ap, ◌∙◌, subst, arith, Some, None, append-nil, inl, inr}
 use Rattle.std.specs.Prelude.{◌==◌, ◌&&◌, not, nat_lt, if◌then◌else◌, slice_get}
 use Rattle.std.specs.List.{sum_by, AllByRecursion}
@@ -56,14 +56,14 @@ use Rattle.rng_core.specs.Makes.{setting_of}
 use Rattle.rng_core.specs.InsideMakes.{bound_acts, outcome_line}
 use Rattle.rng_core.specs.OwnStates.{OwnUse, by_vread, by_vread_inside, by_vread_local, by_wipe, before_use, after_use, entries_of, steps_of, IsKnown, UseIsKnown, Follow, after_uses, entries_left, visits_at, all_visits_at, OwnStates, OwnBook, OwnStatesAreLawful}
 
--- The visits of steps, counted as marks and as places
+-- The CPU visits among a list of steps, counted by their marks and by their places
 
 -- `p` is a place of CPU `c`
 module _ (c p : ℕ) where
   one_more : (place : ℕ) (rest : List ℕ) → times p (place ∷ rest) ≡ hit (place == p) + times p rest
   one_more place rest = sum_by-cons (λ (q : ℕ). cond (q == p) 1 0) place rest
 
-  -- a mark counts if and only if it is of the CPU's lane
+  -- a mark counts for place `p` of CPU `c` if and only if it is of the CPU's lane (`b` is true) and has the place `p`
   counted_if : (b : Bool) (place n : ℕ) (rest : List ℕ) → n ≡ times p rest →
       (if b then hit (place == p) else 0) + n ≡ times p (if b then place ∷ rest else rest)
   counted_if true place n rest is = let more = one_more place rest in omega arith
@@ -92,10 +92,11 @@ module _ (c p : ℕ) where
   marks_are_places (visited mark e ∷ steps) = counted_at mark.lane mark.place (mark_takes (CpuLane c) p (map step_of steps))
       (places_in (c + 2) steps) (marks_are_places steps)
 
--- One use
+-- One use of a vgetrandom state
 
--- a use of the state `s` left the state `t` and these entries, by its own steps. If a list leads to `s`, then the list
--- with these entries leads to `t`. Each read that an entry takes as a key has 32 bytes and is among the steps
+-- a use with the own steps `steps` changed the state `s` to `t`, and left the entries `es`. If a list leads to `s`,
+-- then the list followed by `es` leads to `t`. Each read that an entry takes as a key has 32 bytes, and is among
+-- `steps`
 record Leaves (lists : Lists) (s t : VgetrandomState) (es : List VEntry) (steps : List MadeStep) : Type 0 where
   keeps : (caller : ℕ) (x : NamedState) → Settled x s → Keeps caller 0 (λ y. Settled y t) x es
   reads : AllByRecursion (TakesRead (cpu_list lists)) es
@@ -103,11 +104,11 @@ record Leaves (lists : Lists) (s t : VgetrandomState) (es : List VEntry) (steps 
   holds : (caller : ℕ) (x : replay.Both lists caller 0) → replay.Holds lists caller 0 x s →
       replay.Holds lists caller 0 (replay.after lists caller 0 x es) t
 
--- a caller with this one state
+-- a caller that has the vgetrandom state `s` and no other
 abbrev standing : CallSetting → VgetrandomState → CallerState
 standing set s = record { setting = set; states = s ∷ []; current = 0 }
 
--- a batch that serves locally has enough bytes left
+-- a batch that can serve `n` bytes without a call (`serves_locally`) has at least `n` bytes left
 left_of : (g n : ℕ) (s : VgetrandomState) → serves_locally g s n ≡ true → has_left s n ≡ true
 left_of g n s serves = right (not s.in_use) (has_left s n)
     (right (g == s.generation) (not s.in_use && has_left s n)
@@ -117,7 +118,7 @@ left_of g n s serves = right (not s.in_use) (has_left s n)
     right true b h = h
     right false b h = cc
 
--- a copy that the batch alone serves
+-- a copy of `n` bytes that the batch of the state `s` alone serves
 module _ (lists : Lists) (s : VgetrandomState) (n : ℕ) (some : 1 ≤ n) (left : has_left s n ≡ true)
     (steps : List MadeStep) where
   copied_keeps : (caller : ℕ) (x : NamedState) → Settled x s →
@@ -132,7 +133,7 @@ module _ (lists : Lists) (s : VgetrandomState) (n : ℕ) (some : 1 ≤ n) (left 
     holds = λ caller x h. replay.copy_holds lists caller 0 x s 0 n some h;
   }
 
--- a read that is given by its meaning
+-- a read that is described by the meaning of its call (`CallMeaning`)
 module _ (lists : Lists) (set : CallSetting) (n flags : ℕ) (acts : List BoundAct) (steps : List MadeStep)
     (s t : VgetrandomState) (answer : Answer) (shown : Shown) (lines : List LineMeaning) (es : List VEntry) where
   abbrev effects : List Effect
@@ -147,7 +148,7 @@ module _ (lists : Lists) (set : CallSetting) (n flags : ℕ) (acts : List BoundA
     after = with_state (standing set s) t;
   }
 
-  -- a read by a call of vgetrandom leaves its entries
+  -- if the read is a call of vgetrandom (`ByVgetrandom`), it leaves the state `t` and the entries `es`
   called : NeverFall (looks_of effects) → ByVgetrandom n flags acts meaning → Leaves lists s t es steps
   called rising by = let to : t ≡ by.outcome.state = ap current_state by.after in
       let there = all_there lists (map step_of steps) in
@@ -164,7 +165,7 @@ module _ (lists : Lists) (set : CallSetting) (n flags : ℕ) (acts : List BoundA
       subst (λ (z : VgetrandomState × List VEntry). Leaves lists s z.0 z.1 steps)
       (λ i. (sym to i, sym by.entries i)) done
 
-  -- a read by a copy after one look leaves its entries
+  -- if the read is a copy out of the batch after one look (`ByLocalCopy`), it leaves the state `t` and the entries `es`
   served : (look : ℕ) (rest : List Effect) → 1 ≤ n → serves_locally (published_by look) s n ≡ true →
       ByLocalCopy n rest meaning → Leaves lists s t es steps
   served look rest some serves by = let to : t ≡ state_after_copy s 0 n = ap current_state by.after in
@@ -181,11 +182,11 @@ module _ (lists : Lists) (set : CallSetting) (n flags : ℕ) (acts : List BoundA
       (λ no by. called means.looks by)
       means.done_by
 
--- a use of a state leaves the state after it and its entries (`Leaves`), in the book `lists`
+-- in the book `lists`, the use `u` leaves the state after it and the entries of `u` (`Leaves`)
 abbrev UseLeaves : Lists → OwnUse → Type 0
 UseLeaves lists u = Leaves lists (before_use u) (after_use u) (entries_of u) (steps_of u)
 
--- The uses of one state
+-- All uses of one vgetrandom state, in order
 
 module _ (lists : Lists) where
   reads_left : (uses : List OwnUse) → AllByRecursion (UseLeaves lists) uses →
@@ -241,7 +242,7 @@ module _ (lists : Lists) where
             named = λ g. subst IsNamed named' (h.named g);
           }
 
--- The states together
+-- The vgetrandom states of all callers together
 
 -- the lists that one caller of the book has: the list of its own state, and no other
 abbrev own : List OwnUse → List (List VEntry)
@@ -282,7 +283,7 @@ all_within lists c p (uses ∷ states) all = let here = within_left lists c p us
     let rest = all_within lists c p states all.1 in
     omega (arith, sum_by-cons (λ (us : List OwnUse). sum_by (visits_at c p) us) uses states)
 
--- only state 0 of a caller can have a read as its key
+-- if an entry of state `k` of caller `i` takes a read as its key, `k` is 0
 none_else : (states : List (List OwnUse)) (i k n : ℕ) (read : ℕ × ℕ) →
     rekey_at (list_at (list_at (map own states) i) k) n ≡ Some read → k ≡ 0
 none_else [] i k n read is = absurd (cc is)
@@ -290,7 +291,8 @@ none_else (uses ∷ states) zero zero n read is = refl
 none_else (uses ∷ states) zero (suc k) n read is = absurd (cc is)
 none_else (uses ∷ states) (suc i) k n read is = none_else states i k n read is
 
--- if an entry takes a read, the read is in its CPU's list
+-- if the entry with number `n` of `es` takes the read `read` as its key, the list of that read's CPU has the read, with
+-- 32 bytes
 read_there : (cpus : ℕ → List CpuEntry) (es : List VEntry) (n : ℕ) (read : ℕ × ℕ) → AllByRecursion (TakesRead cpus) es →
     rekey_at es n ≡ Some read → taken_at (cpus read.0) read.1 ≡ Some (User 32)
 read_there cpus [] n read all is = absurd (cc is)
@@ -322,7 +324,7 @@ once_at_most p n = go (nat_lt p n)
     go true = omega arith
     go false = omega arith
 
--- At a moment of the table
+-- The law for the state `s` of a table, at a moment between two atomic steps
 
 module _ {first : ℕ} {s : St} (r : WorldRule first s) (states : List (List OwnUse)) (mine : OwnStates s states) where
   abbrev n : ℕ

@@ -26,12 +26,12 @@ use Rattle.lane_table.proofs.Calls.AdvanceLemmas.{climbs_append, mark_grown}
 use Rattle.rng_core.specs.declared.setting.Setting.{Setting}
 use Rattle.rng_core.specs.Traces.{TraceRecords, knowing}
 
--- ---- marks of one lane
+-- ---- The marks of one lane
 
 abbrev pub either : Bool → Mark → List Mark → List Mark
 either here m ms = cond here (m ∷ ms) ms
 
--- the marks of one lane among these
+-- those of the marks that are of lane `lane`
 abbrev pub lane_of : ℕ → List MarkBy → List Mark
 lane_of lane [] = []
 lane_of lane (by ∷ marks) = cond (nat_eq (index_of by.mark.lane) lane) (by.mark ∷ lane_of lane marks) (lane_of lane marks)
@@ -57,13 +57,13 @@ lane_append lane (by ∷ xs) ys = go (nat_eq (index_of by.mark.lane) lane) (lane
 pub marks_both : (lane : ℕ) (xs ys : List MarkBy) → marks_in lane (xs ++ ys) ≡ marks_in lane xs + marks_in lane ys
 marks_both lane xs ys = ap length (lane_append lane xs ys) ∙ length-append (lane_of lane xs) (lane_of lane ys)
 
--- ---- the calls so far
+-- ---- The visits of the calls that a pass has made
 
--- the view knows the visit of the mark
+-- the view `v` knows the visit of the mark `by`
 abbrev pub IsKnown : View → MarkBy → Type 0
 IsKnown v by = (e : LaneEntry) × IsMarkOf v by.mark by.who e
 
--- from `v` to `w` exactly the visits of these marks were made
+-- from the view `v` to `w` the pass made exactly the visits of `marks`
 pub record Path (v w : View) (marks : List MarkBy) : Type 0 where
   pub same : SameView v w
   pub grows : Grows v w
@@ -110,7 +110,7 @@ module _ (caller event : ℕ) where
   known_by w n (looked g ∷ made_steps) conform = known_by w (suc n) made_steps conform
   known_by w n (visited mark e ∷ made_steps) conform = ((e, conform.0), known_by w (suc n) made_steps conform.1)
 
--- one call makes exactly the visits that its trace lists
+-- if `TraceRecords` holds for a call, the call made exactly the visits that its trace lists
 pub path_recorded : (set : Setting) (v w : View) (steps : List Step) (made_steps : List MadeStep) →
     TraceRecords set (knowing v []) (knowing w steps) made_steps → Path v w (marks_from set.caller set.event 0 steps)
 path_recorded set v w steps made_steps is =
@@ -166,7 +166,7 @@ path_then u v w xs ys a b = record {
   known = each_append (IsKnown w) xs ys (known_grown v w xs b.same.sized b.grows a.known) b.known;
 }
 
--- ---- a table of three lanes at its end
+-- ---- A table of three lanes, after all its visits
 
 one_lane : (i : ℕ) → i < 3 → cond (nat_eq i 0) 1 0 + cond (nat_eq i 1) 1 0 + cond (nat_eq i 2) 1 0 ≡ 1
 one_lane zero low = refl

@@ -34,14 +34,14 @@ use Rattle.rng_core.specs.VreadMakes.{done_of, LocallyServed, Refused, Unserved,
 use Rattle.rng_core.proofs.ActRuns.{Risen, sees_risen}
 use Rattle.rng_core.proofs.Hosting.{none_left, published_more}
 
--- Looks
+-- The looks among the effects of a read
 
 looks_below : (effects : List Effect) → {E : Type 0} (d : E → Effect) → ((e : E) → looks_of (d e ∷ effects) ≡ looks_of effects) →
     (o : Option E) → looks_of (effect_or d o ∷ effects) ≡ looks_of effects
 looks_below effects d same None = refl
 looks_below effects d same (Some e) = same e
 
--- a visit counts as no look
+-- an effect of a visit adds no look to those of the other effects
 visit_looks : (lists : Lists) (l : LaneId) (place : ℕ) (effects : List Effect) →
     looks_of (effect_at lists l place ∷ effects) ≡ looks_of effects
 visit_looks lists PoolLane place effects = looks_below effects (λ e. at_pool (pool_visit lists place e)) (λ e. refl) _
@@ -68,7 +68,7 @@ recorded_rise lists set l m made_steps recorded =
     subst (λ (looks : List ℕ). Risen (floor l.view) looks (floor m.view)) (sym (same_looks lists made_steps))
     (sees_risen m.view (floor l.view) (floor m.view) made_steps recorded.went.sees)
 
--- If a batch cannot serve, it cannot serve later either
+-- A batch that cannot serve at one generation cannot serve at a later one either
 
 nothing_and : (x : Bool) → (x && false) ≡ false
 nothing_and true = refl
@@ -84,7 +84,7 @@ refused_later a b n s low less refuses = dite (ℕ_discrete b s.generation)
     (λ e. subst (λ (z : ℕ). serves_locally z s n ≡ false) (let f : a ≡ b = omega arith in f) refuses)
     (λ ne. other_generation b n s (ne_eqb b s.generation ne))
 
--- Calls
+-- The answer and the data of a call of vgetrandom
 
 abbrev pub answered : Result VEnd Errno → Answer
 answered result = result_answer (done_of result)
@@ -102,7 +102,7 @@ ending_is n (by_system (read bytes visit)) result buf long none e = (ap answered
 ending_is n (by_system (failed errno)) result buf long none e =
     (ap answered e, ap (λ (r : Result VEnd Errno). showing r buf) e)
 
--- Reads
+-- A read: a copy out of the batch, or a call of vgetrandom
 
 -- from `v` to `w` the batch did not serve a read. The known lists did not change, and the generation seen did not fall
 pub record Stayed (v w : View) : Type 0 where
@@ -145,7 +145,7 @@ stayed n flags s t answer shown set l m k = go k.began
     go (inl served) = stayed_at l.view k.looked served.0
     go (inr unserved) = stayed_by n flags s l.view k.looked unserved (tries_local n flags []) refl
 
--- a read that the batch served
+-- the batch of the state `s` served the read of `n` bytes, and the state became `t`
 module _ (n flags : ℕ) (s t : VgetrandomState) (out : List ℕ) (set : Setting) (l m : Moment)
     (k : LocallyServed n flags s t out set l m) where
   local_line : (before : CallerState) → current_state before ≡ s →
@@ -187,7 +187,7 @@ good_flags true true e = absurd (cc e)
 good_flags false true e = absurd (cc e)
 good_flags x false e = refl
 
--- a read that a call served
+-- a call of vgetrandom on the state `s` served the read of `n` bytes, and the state became `t`
 module _ (n flags : ℕ) (s t : VgetrandomState) (answer : Answer) (shown : Shown) (set : Setting) (l m o : Moment)
     (low : s.generation ≤ published_by (floor l.view))
     (left : Unserved n flags s l.view m.view) (k : Called n flags s t answer shown set m o)
@@ -212,7 +212,8 @@ module _ (n flags : ℕ) (s t : VgetrandomState) (answer : Answer) (shown : Show
         after = ap (with_state before) k.state;
       }
 
-      -- a call after a refusal begins with a look, which finds at least the generation that the refusing look found
+      -- after a look that found that the batch cannot serve (`Refused`), the call begins with a look, which finds at
+      -- least the same generation
       after_look : (refused : Refused n s l.view m.view) → FromLook n flags s k.steps k.outcome →
           Looked (LocalOrCall n flags [] meant) effects
       after_look refused from =

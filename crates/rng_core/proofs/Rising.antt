@@ -19,7 +19,7 @@ use Rattle.rng_core.specs.declared.site.Site.{Site}
 use Rattle.rng_core.specs.Traces.{Moment, Visited}
 use Rattle.rng_core.specs.Sites.{at, Entered, ExtractedRaising, lane_of, seen_by}
 
--- a reseed in the base's list raises the generation
+-- if the visit with number `i` in the base's list `xs` is a reseed, it raises the generation by 1
 pub reseeded_at : (xs : List Visit) (i root now : ℕ) (x : Visit) → get_elem? xs i ≡ some x →
     x.entry ≡ Base (Reseed root now) →
     (replay (take (suc i) xs)).base.generation ≡ (replay (take i xs)).base.generation + 1
@@ -27,7 +27,7 @@ reseeded_at xs i root now x there is = ap (λ (k : Model). k.base.generation)
     (fold_next model_step start_model xs i x (conforms_at xs i x there)
     ∙ ap (λ (e : LaneEntry). made_of (replay (take i xs)) e x.got) is)
 
--- the maker of a reseed has seen the raised generation
+-- a caller that made a reseed has seen a generation above the one before the reseed
 reseed_seen : (set : Setting) (m n : Moment) (place root now : ℕ) (s : Model) (got : Handed) →
     Visited set m n 1 place s (Base (Reseed root now)) got → s.base.generation < floor n.view
 reseed_seen set m n place root now s got v =

@@ -1,4 +1,5 @@
--- The effects of calls at a site that visit the pool or a CPU's fast pool follow from these visits.
+-- The effects of calls that visit the pool or a CPU's fast pool follow from these visits. A call runs at a site: its
+-- table, pass, trace and setting.
 use Rattle.std.proofs.Common.{◌≡◌, ℕ, ◌+◌, ◌<◌, ◌≤◌, length, ap, ◌∙◌, arith}
 use Rattle.key_names.specs.declared.entries.PoolEntry.{PoolEntry}
 use Rattle.key_names.specs.declared.entries.PoolEntry.TheVariants.{Bits}
@@ -22,7 +23,7 @@ use Rattle.rng_core.proofs.Makings.{did_bits, did_credit}
 use Rattle.rng_core.proofs.Sampling.{CpuMet, did_met, visited_below}
 use Rattle.rng_core.proofs.SiteLemmas.{same_then, by_set, does_following, does_visited}
 
--- a call that reads the bits in one visit completes the event
+-- a call that reads the pool's credited bits in one visit completes the event `bits`
 pub does_bits : (h k : Held) (bits : ℕ) (l m n : Site) → Entered pool_lane h l m → VisitedIdly pool_lane k (Pool Bits) m n →
     bits ≡ (lane_of m pool_lane).pool.bits → Completes 1 BitsEvent Done (count bits) l n
 does_bits h k bits l m n a b is = does_following (λ set visits. IsOutcomeOf (setting_of set) BitsEvent Done (count bits)) 1
@@ -45,7 +46,7 @@ does_credit h k e crossed j l m n a b is d = does_following (λ set visits. Cred
           (by_set (λ set visits. Cross (setting_of set) crossed) l m n b.same d.did);
     })
 
--- a visit of the caller's CPU found the fast pool that the caller knows
+-- a visit of the caller's CPU found the fast pool that the caller knows at site `m`
 pub does_met : (h : Held) (e : CpuEntry) (m n : Site) → IsIntOfBatch e → VisitedIdly (own_lane m) h (Cpu e) m n →
     DoesIn 1 (CpuMet m.set.cpu h.turn.place e (own_cpu m).fast) m n
 does_met h e m n fits b = does_visited (own_lane m) h (Cpu e) m n b
@@ -61,7 +62,7 @@ taken_after h l m idle cpu a =
     ∙ ap (λ (lane : ℕ). length (known_of (view m.pass.now) lane)) a.holds.lane_is
     ∙ ap (λ (s : Setting). length (known_of (view m.pass.now) (s.cpu + 2))) a.walked.same.set in omega arith
 
--- after a visit the caller knows the visit's place
+-- after a visit of its CPU, the caller knows that visit: the visit's place is below the number of places that it knows
 pub visit_below : (h : Held) (e : CpuEntry) (m n : Site) → VisitedIdly (own_lane m) h (Cpu e) m n →
     h.turn.place < own_places n
 visit_below h e m n b =

@@ -35,7 +35,7 @@ use Rattle.rng_core.specs.SampleEffects.{Sampled, DumpConforms, fast_in}
 use Rattle.rng_core.proofs.Makings.{After}
 use Rattle.rng_core.proofs.Finding.{found_cpu}
 
--- the steps after a credit mix no bytes, and visit no CPU
+-- the steps for a threshold that a credit crossed mix no bytes into the pool, and visit no CPU
 rooted : (set : CallSetting) (entry : ℕ → BaseEntry) (effects : List Effect) → Rooted set entry effects →
     AllByRecursion IsCrossing effects
 rooted set entry effects f = subst (AllByRecursion IsCrossing) (sym f.effects_are)
@@ -47,7 +47,7 @@ crossed set ready effects f = rooted set _ effects f
 crossed set early effects (inl f) = rooted set _ effects f
 crossed set early effects (inr f) = subst (AllByRecursion IsCrossing) (sym f.effects_are) (tt, tt)
 
--- one visit of a CPU, at this place, which found this fast pool
+-- the effects are one visit of CPU `cpu`, at `place` with the entry `e`, and the visit found the fast pool `fast`
 pub record CpuMet (cpu place : ℕ) (e : CpuEntry) (fast : FastPool) (visits : ℕ → List Visit)
     (effects : List Effect) : Type 0 where
   pub only : CpuOnly cpu e effects
@@ -67,14 +67,14 @@ did_met set m n cpu place s e got fits x = record {
       };
 }
 
--- after a visit the pass knows the visit's place
+-- after a visit of `lane` at `place`, the pass knows the list of `lane` through that place
 pub visited_below : (set : Setting) (m n : Moment) (lane place : ℕ) (s : Model) (e : LaneEntry) (got : Handed) →
     Visited set m n lane place s e got → place < length (known_of n.view lane)
 visited_below set m n lane place s e got x =
     let low = at_below (known_of n.view (index_of x.mark.lane)) x.mark.place x.met.visit x.met.there in
     let on = ap (λ (l : ℕ). length (known_of n.view l)) x.lane_is in let at = x.place_is in omega arith
 
--- a dump and its mix satisfy DumpConforms
+-- a dump at `place`, and the visit of the pool that mixes the dump's bytes, satisfy `DumpConforms`
 pub dump_conforms : (set : CallSetting) (place from : ℕ) (fast : FastPool) (text : List ℕ) (bits : ℕ)
     (visits : ℕ → List Visit)
     (effects : List Effect) → from ≤ place → text ≡ dump_bytes fast → bits ≡ dump_bits fast →

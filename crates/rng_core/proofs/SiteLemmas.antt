@@ -1,4 +1,4 @@
--- The effects of calls at a site follow from their looks and visits.
+-- The effects of calls at a site (a call's table, pass, trace and setting) follow from their looks and visits.
 use Rattle.std.proofs.Common.{◌≡◌, ℕ, ◌+◌, List, [], ◌∷◌, ◌++◌, subst, refl, ◌∙◌, length, length-append, ap, ◌≤◌, arith}
 use Rattle.key_names.specs.declared.entries.PoolEntry.{PoolEntry}
 use Rattle.key_names.specs.declared.entries.BaseEntry.{BaseEntry}
@@ -72,7 +72,7 @@ does_within few many m n less k = record {
   did = k.did;
 }
 
--- effects that have a form and serve bytes have the form
+-- effects that have the form `F` and serve `bytes` have the form `F`
 pub does_formed : {F : List Effect → Type 0} {bytes : List ℕ} (steps : ℕ) (m n : Site) →
     Does steps (Serving F bytes) m n →
     Does steps F m n
@@ -109,7 +109,7 @@ pub does_then : {P : List Effect → Type 0} (Q : Setting → List Effect → Ty
     Does first P l m → Does second (Q m.set) m n → Does (first + second) (After P (Q l.set)) l n
 does_then Q first second l m n a b = does_in_then (λ s visits. Q s) first second l m n a b
 
--- a look and the call after it are one call
+-- a look, and a call of `steps` steps after it, are together one call of `steps + 1` steps
 pub does_looked : (P : Setting → ℕ → List Effect → Type 0) (bytes : List ℕ) (steps g : ℕ) (l m n : Site) →
     Looked g l m → Does steps (Serving (P m.set g) bytes) m n →
     Does (steps + 1) (Serving (forms.Looked (P l.set)) bytes) l n
@@ -132,7 +132,7 @@ does_found P steps g l m n a k = record {
   did = did_after_look l.set (at l) (at m) (at n) g a.walked.recorded (by_set (λ s visits. P s) l m n a.walked.same k.did);
 }
 
--- one look is a call of one step
+-- a call that only looks, and finds `g`, has one step (`Does 1`)
 pub does_look : (g : ℕ) (m n : Site) → LookedIdly g m n → Does 1 (λ (effects : List Effect). effects ≡ look g ∷ []) m n
 does_look g m n a = record {
   same = a.looked.walked.same;
@@ -141,7 +141,7 @@ does_look g m n a = record {
   did = did_look m.set (at m) (at n) g a.looked.walked.recorded;
 }
 
--- a call may make no step
+-- if P holds for an empty list of effects, a call that makes no step satisfies `Does`
 pub does_nothing : {P : List Effect → Type 0} (steps : ℕ) (m : Site) → IsIdle steps m → P [] → Does steps P m m
 does_nothing steps m idle p = record {
   same = record { lanes = refl; set = refl; pass = refl; trace = refl };
@@ -150,7 +150,7 @@ does_nothing steps m idle p = record {
   did = did_nothing m.set (at m) (let a = idle.has.pass.sized in let b = m.lanes.now.few in omega arith) p;
 }
 
--- one visit is a call of one step
+-- a call that makes only one visit has one step (`DoesIn 1`)
 pub does_visited : {P : (ℕ → List Visit) → List Effect → Type 0} (lane : ℕ) (h : Held) (e : LaneEntry) (m n : Site) →
     VisitedIdly lane h e m n → (Visited m.set (at m) (at n) lane h.turn.place (lane_of m lane) e
     (handed lane e (view m.pass.now)) →
@@ -165,7 +165,7 @@ does_visited lane h e m n k f = record {
 pub visit_at : (a b : ℕ) (h : Held) (e : LaneEntry) (m n : Site) → a ≡ b → VisitedIdly a h e m n → VisitedIdly b h e m n
 visit_at a b h e m n same k = subst (λ (l : ℕ). VisitedIdly l h e m n) same k
 
--- one visit of the pool, the base or a CPU is a call of one step
+-- a call that makes only one visit of the pool, the base or a CPU has one step (`Does 1`)
 pub does_pool : (h k : Held) (e : PoolEntry) (l m n : Site) → Entered 0 h l m → VisitedIdly 0 k (Pool e) m n →
     Does 1 (PoolOnly e) l n
 does_pool h k e l m n a b = does_after 1 l m n a.walked a.trace

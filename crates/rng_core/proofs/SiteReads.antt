@@ -1,4 +1,5 @@
--- A read or an integer that a call makes at a site has effects of its form, and gets the bytes that its visits serve.
+-- A call at a site (its table, pass, trace and setting) reads bytes or serves an integer. Its effects have the form of
+-- that event, and its visits serve the bytes.
 use Rattle.std.proofs.Common.{◌≡◌, ℕ, ◌+◌, ◌≤◌, Bool, true, List, length, Some, None, subst, arith}
 use Rattle.key_names.specs.declared.entries.PoolEntry.TheVariants.{Extract}
 use Rattle.key_names.specs.declared.entries.BaseEntry.{BaseEntry}
@@ -31,7 +32,8 @@ pub serves_base : (h : Held) (e : BaseEntry) (bytes : List ℕ) (m n : Site) →
 serves_base h e bytes m n k is = does_visited 1 h (Base e) m n k (λ x. did_base m.set (at m) (at n) h.turn.place e bytes
     (record { model = _; got = _; visited = x; serves = is }))
 
--- an extraction, and a visit of the base that names its root, serve the bytes of the base's visit
+-- an extraction, and then a visit of the base whose entry names the extraction's place, serve the bytes of the base's
+-- visit
 pub serves_rooted : (h : Held) (place : ℕ) (s : Model) (entry : ℕ → BaseEntry) (bytes : List ℕ) (l m n : Site) →
     Same l m →
     length m.trace.now ≡ length l.trace.now + 1 →

@@ -1,4 +1,5 @@
--- How a caller at a site takes a lane, holds it with others, and gives it back with a visit.
+-- How a caller at a site (a call's table, pass, trace and setting) takes a lane, holds it with others, and gives it
+-- back with a visit.
 use Rattle.std.proofs.Common.{◌≡◌, ◌≢◌, ℕ, ◌<◌, ◌≤◌, ◌++◌, List, [], ◌∷◌, length, Option, Some, None, sym, ap, subst, inr, ◌∙◌, arith}
 use Rattle.std.proofs.Math.Seq.{get_or-append_seam}
 use Rattle.atomic_table.specs.Table.{rest}
@@ -113,7 +114,7 @@ can_put_naming lane h outer e s has on kind names above parent_is owes makes fit
   };
 }
 
--- a visit was made, and its entry names the place held in the other lane `outer`
+-- a visit of `lane` with the entry `e` was made, and `e` names the place at which the other lane `outer` is held
 pub record Named (lane : ℕ) (h : Held) (outer : TakenTurn) (e : LaneEntry) (m n : Site) : Type 0 where
   pub has : HasInHands (hand outer (Some h.turn.place) 0 ∷ []) n
   pub early : n.pass.now.stamp ≤ last_stamp

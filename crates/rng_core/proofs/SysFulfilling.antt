@@ -51,7 +51,7 @@ module _ (set : Setting) (n flags g : ℕ) (good : is_bad flags ≡ false) where
   answer_is rest effects b c e is was = (λ i. cond (sym good i) Invalid
       (cond (sym is i) Again (cond (sym was i) Interrupted Done))) ∙ ap (system_answer flags) (sym e)
 
-  -- the core was found not ready, and the caller needs it ready
+  -- the look found the core not ready, and the flags do not have `GRND_INSECURE`
   module _ (must : (g == 0 && not (is_insecure flags)) ≡ true) where
     waits_form : (rest : List Effect) → MatchBool (is_nonblock flags) (rest ≡ [])
         (WaitedInVain rest ⊎ Waited set n rest) → LookedForm set n flags g rest
@@ -77,7 +77,7 @@ module _ (set : Setting) (n flags g : ℕ) (good : is_bad flags ≡ false) where
       not_again : (g == 0 && (is_nonblock flags && not (is_insecure flags))) ≡ false
       not_again = not_all (g == 0) (is_nonblock flags) (is_insecure flags) patient
 
-      -- a wait, and the entry that ended it
+      -- the effects are a look, a wait's entry, the entry that ended the wait, and then `rest`
       ended_is : (first second effects rest : List Effect) (e : BaseEntry) (w : BaseOnly Wait first)
           (x : BaseOnly e second) → effects ≡ looked g ∷ (first ++ (second ++ rest)) →
           effects ≡ looked g ∷ (at_base w.base ∷ at_base x.base ∷ rest)
@@ -174,7 +174,7 @@ module _ (set : Setting) (n flags g : ℕ) (good : is_bad flags ≡ false) where
             shows = ap bytes_or_none (r.bytes_are ∙ sym on.1 ∙ ap served_bytes (sym e));
           }
 
-  -- the core was found ready, or the caller takes bytes anyway
+  -- the look found the core ready, or the flags have `GRND_INSECURE`
   module _ (takes : (g == 0 && not (is_insecure flags)) ≡ false) where
     takes_form : (rest : List Effect) → MatchBool (n == 0) (rest ≡ []) (ReadForm set (User n) g rest) →
         LookedForm set n flags g rest

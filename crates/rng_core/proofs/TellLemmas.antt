@@ -1,4 +1,5 @@
--- The trace records the steps of successive calls, no step if nothing happened, and exactly the visits made.
+-- The trace of a call records the steps of its parts in order. It records no step if nothing happened, and each visit
+-- that was made.
 use Rattle.std.proofs.Common.{◌≡◌, ℕ, List, [], ◌∷◌, ◌++◌, map, take, length, ◌+◌, ◌<◌, ◌≤◌, ◌^◌, max, sym, refl, ap, ◌∙◌, subst, arith, append_assoc, append-nil, length-append}
 use Rattle.std.proofs.lemmas.List.{map-append}
 use Rattle.std.proofs.Math.Seq.{take-append_seam}
@@ -64,7 +65,8 @@ lane_fits PoolLane low = tt
 lane_fits BaseLane low = tt
 lane_fits (CpuLane c) low = omega arith
 
--- if the lane was held with this place and these stamps, the mark of the visit fits (`MarkFits`)
+-- suppose that a mark has the place of a held lane, and a stamp one above the greater of the lane's last stamp `stamp`
+-- and the pass's stamp `own`. If all are within their limits, the mark fits (`MarkFits`)
 pub mark_fits : (mark : Mark) (lane place stamp own : ℕ) → index_of mark.lane ≡ lane → lane < 258 →
     mark.place ≡ place → place ≤ stamp → stamp < 2 ^ 62 → own ≤ 2 ^ 62 → mark.stamp ≡ max own stamp + 1 → MarkFits mark
 mark_fits mark lane place stamp own on near there low early late is = record {
@@ -126,7 +128,7 @@ pub visited_is : (set : Setting) (m n : Moment) (lane place : ℕ) (s : Model) (
     e ≡ e' → Visited set m n lane place s e got → Visited set m n lane place s e' got
 visited_is set m n lane place s e e' got is k = subst (λ (z : LaneEntry). Visited set m n lane place s z got) is k
 
--- as `visited_by_put`, but the lane is given by two equal numbers
+-- as `visited_by_put`, but the lane's number is given twice: `held` and `lane`, which are equal
 pub visited_at : (set : Setting) (m m' : Seated) (recorded recorded' : List Step) (mark : Mark) (who : Who) (e : LaneEntry)
     (held lane : ℕ) → held ≡ lane → index_of mark.lane ≡ held → mark.place ≡ length (known_of m.0 held) →
     held < length m.0.lanes → 1 < length m.0.lanes

@@ -1,4 +1,4 @@
--- A caller as the host of a vgetrandom call with acts inside: the caller's work over the lanes at each step of the
+-- A caller as the host of a vgetrandom call with acts inside: the caller's own steps over the lanes at each step of the
 -- host.
 use Rattle.std.specs.Prelude.{◌≡◌, ℕ, ◌&&◌, Bool, true, false, MatchBool, List, if◌then◌else◌}
 use Rattle.key_names.specs.declared.point.Point.{Point}
@@ -38,7 +38,7 @@ abbrev pub act_conform : Conform → Attempt → List Ask → List ActOutcome �
 act_conform core attempt asks outcomes =
     record { core = core; attempt = attempt; asks = asks; outcomes = outcomes }
 
--- the attempt, the requests and the outcomes are unchanged
+-- the attempt, the requested acts and their outcomes are the same in `s` and `t`
 pub record SameActs (s t : ActConform) : Type 0 where
   pub attempt : t.attempt ≡ s.attempt
   pub asks : t.asks ≡ s.asks
@@ -50,7 +50,7 @@ pub record ActPublished (s : ActConform) (g : ℕ) (t : ActConform) : Type 0 whe
   pub consistent : Consistent t.core.moment.view
   pub acts : SameActs s t
 
--- the caller made this system call
+-- the caller made a system call for `n` bytes with the flags `flags`, and got the answer `answer`
 pub record ActAnswered (s : ActConform) (n flags : ℕ) (answer : SystemAnswer) (t : ActConform) : Type 0 where
   pub core : Answered s.core n flags answer t.core
   pub begins : is_bad flags ≡ false → BeginsWithLook s.core.moment.steps t.core.moment.steps

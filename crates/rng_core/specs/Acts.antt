@@ -1,4 +1,4 @@
--- Acts inside a vgetrandom call: each request and its outcome.
+-- Acts inside a vgetrandom call: each request for an act, and the act's outcome.
 use Rattle.std.specs.Prelude.{◌≡◌, ℕ, ◌+◌, ◌==◌, ◌&&◌, ◌||◌, not, nat_le, ◌^◌, Bool, true, false, MatchBool, Result}
 use Rattle.std.specs.Prelude.{List, [], ◌∷◌, take, drop, map, length}
 use Rattle.key_names.specs.declared.errno.Errno.{Errno}
@@ -17,13 +17,13 @@ use Rattle.rng_core.specs.declared.setting.Setting.{Setting}
 use Rattle.rng_core.specs.Traces.{knowing}
 use Rattle.rng_core.specs.Makes.{Makes, setting_of, result_answer, given}
 
--- a request: the act, its point, and its event
+-- a request for an act: the act, its point, and the number of its event
 pub record Ask : Type 0 where
   pub point : Point
   pub act : InsideAct
   pub event : ℕ
 
--- the outcome of an act, with the bytes of its part of `out`
+-- the outcome of an act: whether it ran, its answer, its steps, and its part of the bytes in `out`
 pub record ActOutcome : Type 0 where
   pub done : Bool
   pub answer : Result (Unit {0}) Errno
@@ -55,7 +55,7 @@ outcomes_of [] out = []
 outcomes_of (b ∷ bounds) out =
     outcome_of b (take (wants b.act) out) ∷ outcomes_of bounds (drop (wants b.act) out)
 
--- whether an act at this point wipes
+-- whether one of the requested acts at the point `point` is a wipe
 abbrev pub wipes_at : List Ask → Point → Bool
 wipes_at [] point = false
 wipes_at (a ∷ asks) point = (is_same_point a.point point && is_wipe a.act) || wipes_at asks point
@@ -73,7 +73,7 @@ pub record AreReady (bounds : List Bound) (out : List ℕ) : Type 0 where
   pub fits : length out ≡ all_wanted (asks_of bounds)
   pub ready : all_ready bounds ≡ true
 
--- the line of an act that was done
+-- the meaning of the line of an act that ran, with its effects, its result `answer` and its bytes
 abbrev pub done_line : List Effect → Result (Unit {0}) Errno → List ℕ → LineMeaning
 done_line effects answer bytes =
     record { effects = effects; answer = result_answer answer; shown = bytes_or_none (given answer bytes) }
@@ -81,14 +81,14 @@ done_line effects answer bytes =
 abbrev pub at_event : ℕ → Setting → Setting
 at_event event set = record set { event = event }
 
--- from `v` to `w` the act ran, with the outcome `y`
+-- from the view `v` to `w` the act of the request `ask` ran, with the outcome `y`
 pub record ActRan (set : Setting) (ask : Ask) (v w : View) (y : ActOutcome) : Type 0 where
   pub done : y.done ≡ true
   pub did : Makes (λ effects. ActMeans (setting_of set) ask.act (done_line effects y.answer y.bytes))
       (at_event ask.event set)
       (knowing v []) (knowing w y.steps)
 
--- at a point an act runs if it is bound to the point and has not run yet
+-- at the point `point` the act of `ask` runs if it is bound to `point` and has not run yet; its outcome `x` becomes `y`
 abbrev pub ActAt : Setting → Point → Ask → View → View → ActOutcome → ActOutcome → Type 0
 ActAt set point ask v w x y = MatchBool (is_same_point point ask.point && not x.done) (ActRan set ask v w y)
     ((y ≡ x) × (w ≡ v))

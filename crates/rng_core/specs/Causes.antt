@@ -14,7 +14,7 @@ pub record FoundUnready (rest : List Step) (m n : Site) : Type 0 where
   pub unseen : seen_by m ≡ 0
   pub steps : n.trace.now ≡ m.trace.now ++ Look 0 ∷ rest
 
--- with these flags a read needs a ready core, and waits for readiness unless `nonblock` is set
+-- with the flags `flags` a read needs a ready core, and waits for readiness unless `nonblock` is set
 pub record NeedsReady (nonblock : Bool) (flags : ℕ) : Type 0 where
   pub good : is_bad flags ≡ false
   pub secure : is_insecure flags ≡ false

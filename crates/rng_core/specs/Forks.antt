@@ -18,7 +18,7 @@ use Rattle.rng_core.specs.declared.site.Site.{Site}
 use Rattle.rng_core.specs.Sites.{Same, Does, HasInHands, at}
 
 -- from `m` on the pass made the visit of a fork, after which the trace had the steps `recorded`; then the pass was
--- split
+-- split into `pass` and `child`
 pub record Forked (set : Setting) (m : Moment) (recorded : List Step) (number : ℕ) (pass child : Pass) : Type 0 where
   pub before : View
   pub did : Makes (BaseOnly (Fork number)) set m (knowing before recorded)
@@ -27,7 +27,7 @@ pub record Forked (set : Setting) (m : Moment) (recorded : List Step) (number : 
   pub pass_is : view pass ≡ halved before
   pub child_is : view child ≡ steps.child before
 
--- the caller recorded a child, in one visit of the base
+-- the caller recorded the new caller `child`, in one visit of the base
 pub record TellsOf (child : ℕ) (m n : Site) : Type 0 where
   pub does : Does 1 (BaseOnly (Fork child)) m n
   pub mark : Mark

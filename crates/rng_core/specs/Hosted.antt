@@ -1,4 +1,4 @@
--- A caller as the host of its own vgetrandom calls: the caller's work over the lanes at each step of the host.
+-- A caller as the host of its own vgetrandom calls: the caller's own steps over the lanes at each step of the host.
 use Rattle.std.specs.Prelude.{◌≡◌, ℕ, ◌<◌, ◌≤◌, ⊤, Bool, true, false, IsTrue, List, [], ◌∷◌, length}
 use Rattle.std.proofs.Props.{props}
 use Rattle.std.specs.Coded.{Coded-set}
@@ -27,7 +27,7 @@ is_away Away = true
 is_away (Queued ticket) = false
 is_away (Holding ticket) = false
 
--- a pass of this table and this caller that neither holds a lane nor waits for one
+-- `p` is a pass of the table `t` and of the caller `caller`, and neither holds a lane nor waits for one
 pub record IsFree (t : Lanes) (caller : ℕ) (p : Pass) : Type 0 where
   pub pass : IsPassOf t p
   pub own : p.caller ≡ caller
@@ -56,18 +56,18 @@ pub record Published (s : Conform) (g : ℕ) (t : Conform) : Type 0 where
   pub known : found ≤ floor t.moment.view
   pub recorded : recorded.TraceRecords s.set s.moment t.moment (looked found ∷ [])
 
--- `effects` are those of a system call for `n` bytes with these flags, and `answer` is the call's answer
+-- `effects` are those of a system call for `n` bytes with the flags `flags`, and `answer` is the call's answer
 pub record SystemCall (set : CallSetting) (n flags : ℕ) (answer : SystemAnswer) (effects : List Effect) : Type 0 where
   pub form : SysForm set n flags effects
   pub answers : answer ≡ answer_after flags effects
 
--- the system call read its bytes
+-- the answer is that of a system call that read bytes
 abbrev pub IsRead : SystemAnswer → Type 0
 IsRead (read bytes visit) = ⊤
 IsRead (failed errno) = ⊥
 
--- the caller made this system call. If the flags are good and the caller had seen the core ready, the call reads its
--- bytes
+-- the caller made a system call for `n` bytes with `flags`, and got the answer `answer`. If the flags are good and the
+-- caller had seen the core ready, the call reads its bytes
 pub record Answered (s : Conform) (n flags : ℕ) (answer : SystemAnswer) (t : Conform) : Type 0 where
   pub same : t.set ≡ s.set
   pub did : Makes (SystemCall (setting_of s.set) n flags answer) s.set s.moment t.moment

@@ -33,7 +33,7 @@ module _ {R : Type 0} where
     pub calls : h.calls ≡ 3
     pub fresh : AllByRecursion IsWaitingAct h.acts.now
 
-  -- the state of the caller
+  -- the caller's state in a call whose host is `h`
   abbrev pub standing : LaneHost R → ActConform
   standing h = act_conform (conform h.site.set h.site.pass.now h.site.trace.now) h.attempt (asks_of h.acts.now)
       (outcomes_of h.acts.now h.out.now)

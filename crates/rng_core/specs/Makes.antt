@@ -29,7 +29,8 @@ use Rattle.rng_core.specs.declared.setting.Setting.{Setting}
 abbrev pub setting_of : Setting → CallSetting
 setting_of set = record { cpu = set.cpu; now = set.now; hw = set.hw }
 
--- from `m` to `n` the trace lists the steps of the pass, and P holds for the lists and for the effects of these steps
+-- from `m` to `n` the trace lists the steps of the pass, and P holds for the lanes' lists of visits and for the effects
+-- of these steps
 pub record MakesIn (P : (ℕ → List Visit) → List Effect → Type 0) (set : Setting) (m n : Moment) : Type 0 where
   pub made_steps : List MadeStep
   pub recorded : recorded.TraceRecords set m n made_steps
@@ -40,18 +41,18 @@ pub record MakesIn (P : (ℕ → List Visit) → List Effect → Type 0) (set : 
 abbrev pub Makes : (List Effect → Type 0) → Setting → Moment → Moment → Type 0
 Makes P set m n = MakesIn (λ visits. P) set m n
 
--- the effects have the form F, and serve these bytes
+-- `effects` have the form `F`, and serve `bytes`
 pub record Serving (F : List Effect → Type 0) (bytes : List ℕ) (effects : List Effect) : Type 0 where
   pub form : F effects
   pub bytes_are : bytes ≡ served_bytes effects
 
--- the bytes that an entry serves from this model of its lane
+-- the bytes that an entry serves; `s` is the model of its lane (the value in the proofs), and `got` the received key
 abbrev pub serving : LaneEntry → Model → Handed → List ℕ
 serving (Pool e) s got = []
 serving (Base e) s got = base_serving s.base got e
 serving (Cpu e) s got = cpu_serving s.cpu got e
 
--- one visit was made, and it served these bytes
+-- one visit of `lane` was made, at `place` with the entry `e`, and it served `bytes`
 pub record Served (set : Setting) (m n : Moment) (lane place : ℕ) (e : LaneEntry) (bytes : List ℕ) : Type 0 where
   pub model : Model
   pub got : Handed

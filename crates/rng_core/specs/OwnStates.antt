@@ -37,7 +37,7 @@ pub data OwnUse : Type 0 where
       LocallyServed n flags s t out set l m → OwnUse
   by_wipe : VgetrandomState → OwnUse
 
--- the state before a use, and after it
+-- the vgetrandom state before a use. `after_use`: the state after it
 abbrev pub before_use : OwnUse → VgetrandomState
 before_use (by_vread n flags s t answer shown set l m k) = s
 before_use (by_vread_inside n flags s t answer shown set l m asks outcomes k) = s
@@ -64,7 +64,7 @@ steps_of (by_vread_inside n flags s t answer shown set l m asks outcomes k) = k.
 steps_of (by_vread_local n flags s t out set l m k) = looked k.found ∷ []
 steps_of (by_wipe s) = []
 
--- some pass of the table knows everything that the caller knew
+-- some pass of the table knows everything that the view `w` knows
 pub record IsKnown (s : St) (w : View) : Type 0 where
   pub number : ℕ
   pub view : View
@@ -84,7 +84,7 @@ abbrev pub Follow : VgetrandomState → List OwnUse → Type 0
 Follow s [] = ⊤
 Follow s (u ∷ us) = (before_use u ≡ s) × Follow (after_use u) us
 
--- the state after these uses, and below the entries that these uses leave
+-- the state after the uses of a list, which begin with the state `s`. `entries_left`: the entries that these uses leave
 abbrev pub after_uses : VgetrandomState → List OwnUse → VgetrandomState
 after_uses s [] = s
 after_uses s (u ∷ us) = after_uses (after_use u) us
@@ -109,7 +109,8 @@ pub record OwnStates (s : St) (states : List (List OwnUse)) : Type 0 where
   pub counted : (c p : ℕ) → c + 2 < length s.homes →
       all_visits_at c p states ≤ sum_by (λ v. times p (at (c + 2) v).places) s.views
 
--- the book of the table's lists so far and of these states. In the book each state is state 0 of a caller
+-- the book of the table's lists `logs` so far and of the vgetrandom states `states`. In the book each of these states
+-- is state 0 of a caller
 abbrev pub own_lists : St → (ℕ → List Visit) → List (List OwnUse) → Lists
 own_lists s logs states = book_lists (length s.homes) logs (map (λ uses. entries_left uses ∷ []) states)
 

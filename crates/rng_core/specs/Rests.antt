@@ -1,4 +1,4 @@
--- The bytes that the rest of a read makes.
+-- The rest of a read: the bytes that it makes after it released the lane whose key it used.
 use Rattle.std.specs.Prelude.{◌≡◌, ℕ, ◌-◌, ◌*◌, ◌<◌, ◌≤◌, ◌^◌, ◌++◌, List, length, take}
 use Rattle.key_names.specs.declared.entries.Taken.{Taken}
 use Rattle.key_names.specs.Kernel.Keystream.{keystream}

@@ -11,7 +11,7 @@ use Rattle.key_names.specs.Lanes.PoolList.{crossing}
 use Rattle.lane_table.specs.declared.view.Visit.{Visit}
 use Rattle.lane_table.specs.Meaning.{replay}
 
--- a CPU's fast pool before a place of its list
+-- the fast pool of CPU `cpu` before the visit at `place` of the CPU's list
 abbrev pub fast_in : (ℕ → List Visit) → ℕ → ℕ → FastPool
 fast_in visits cpu place = (replay (take place (visits (cpu + 2)))).cpu.fast
 
@@ -20,7 +20,7 @@ pub record Sampled (F : List Effect → Type 0) (visits : ℕ → List Visit) (e
   pub holds : F effects
   pub samples : SamplesConform (fast_in visits) effects
 
--- the effects begin with a dump of the setting's CPU, at this place or later, and the visit of the pool that mixes the
+-- the effects begin with a dump of the setting's CPU, at `place` or later, and the visit of the pool that mixes the
 -- dump
 pub record DumpConforms (set : Setting) (place : ℕ) (visits : ℕ → List Visit) (effects : List Effect) : Type 0 where
   pub dump : CpuVisit

@@ -1,4 +1,4 @@
--- The preconditions and effects of calls at a site.
+-- The preconditions and effects of calls at a site (a call's table, pass, trace and setting).
 use Rattle.std.specs.Prelude.{◌≡◌, ◌≢◌, ◌⊎◌, ℕ, ◌+◌, ◌<◌, ◌≤◌, ◌^◌, List, [], ◌∷◌, length, Option, Some, None, Bool, false}
 use Rattle.key_names.specs.Callers.Effects.{Effect}
 use Rattle.key_names.specs.declared.entries.PoolEntry.TheVariants.{Extract}
@@ -24,7 +24,7 @@ use Rattle.rng_core.specs.declared.crng.keys.ExtractedRoot.{ExtractedRoot}
 use Rattle.rng_core.specs.declared.crng.keys.KeyHandoff.{KeyHandoff}
 use Rattle.rng_core.specs.declared.site.Site.{Site}
 
--- the numbers of the lanes
+-- the lane numbers of the pool and of the base
 abbrev pub pool_lane : ℕ
 pool_lane = 0
 
@@ -38,7 +38,7 @@ cpu_lane c = c + 2
 abbrev pub most_bytes : ℕ
 most_bytes = 2 ^ 20
 
--- a visit may be made only while the pass's stamp is at most this
+-- a pass may make a visit only while its stamp is at most `last_stamp`
 abbrev pub last_stamp : ℕ
 last_stamp = 2 ^ 62
 
@@ -46,11 +46,11 @@ last_stamp = 2 ^ 62
 abbrev pub at : Site → Moment
 at s = moment s.pass.now s.trace.now
 
--- the model of a lane, from the lane's list as the caller knows it
+-- the model of a lane (its value in the proofs), from the lane's list as the caller knows it
 abbrev pub lane_of : Site → ℕ → Model
 lane_of s lane = model s.pass.now lane
 
--- the lane of the CPU that the caller runs on, and its model
+-- the lane number of the CPU that the caller runs on, and the CPU's model
 abbrev pub own_lane : Site → ℕ
 own_lane s = s.set.cpu + 2
 
@@ -61,7 +61,7 @@ own_cpu s = (lane_of s (own_lane s)).cpu
 abbrev pub seen_by : Site → ℕ
 seen_by s = floor (view s.pass.now)
 
--- the caller holds these lanes, the last one first
+-- the caller holds exactly the lanes `hands`; the lane taken last comes first
 abbrev pub HasInHands : List HeldLane → Site → Type 0
 HasInHands hands s = HoldsLanes s.lanes.now s.set.caller hands s.pass.now
 
@@ -73,14 +73,14 @@ most_steps = 20
 abbrev pub own_places : Site → ℕ
 own_places s = length (known_of (view s.pass.now) (own_lane s))
 
--- Before a call
+-- Conditions on the site before a call
 
 -- the caller holds no lane, and its trace has no step yet
 pub record IsNew (s : Site) : Type 0 where
   pub has : HasInHands [] s
   pub empty : length s.trace.now ≡ 0
 
--- the caller holds no lane, and its trace has room for this many steps
+-- the caller holds no lane, and its trace has room for `steps` more steps
 pub record IsIdle (steps : ℕ) (s : Site) : Type 0 where
   pub has : HasInHands [] s
   pub room : length s.trace.now + steps ≤ 20
@@ -89,24 +89,23 @@ pub record IsIdle (steps : ℕ) (s : Site) : Type 0 where
 abbrev pub IsOnCpu : Site → Type 0
 IsOnCpu s = s.set.cpu < s.lanes.now.cpus
 
--- the moment is one that the timers can have
+-- the time of the setting is below 2^40 ms, so the timers can have it
 abbrev pub IsTimely : Site → Type 0
 IsTimely s = s.set.now < 2 ^ 40
 
--- the trace has room for this many steps
+-- the trace has room for `steps` more steps
 abbrev pub HasRoom : ℕ → Site → Type 0
 HasRoom steps s = length s.trace.now + steps ≤ 20
 
--- the caller holds only this lane, and has not changed the lane's value. The hold owes the answer `owes`, and raised
--- the generation `raised` times
+-- the caller holds only `lane`, whose value in `h` is unchanged. It owes an answer to the parent lane's entry at place
+-- `owes` (if any), and raised the generation `raised` times in this hold
 pub record HoldsWith (owes : Option ℕ) (raised lane : ℕ) (h : Held) (s : Site) : Type 0 where
   pub has : HasInHands (hand h.turn owes raised ∷ []) s
   pub lane_is : h.turn.lane ≡ lane
   pub value : ValueRepresents lane h.state (lane_of s lane)
   pub early : s.pass.now.stamp ≤ last_stamp
 
--- the caller holds only this lane, and has not changed the lane's value. The hold owes no answer, and did not raise the
--- generation
+-- the caller holds only `lane`, whose value in `h` is unchanged. It owes no answer, and did not raise the generation
 abbrev pub Holds : ℕ → Held → Site → Type 0
 Holds lane h s = HoldsWith None 0 lane h s
 
@@ -128,14 +127,15 @@ pub record IsRefill (look : ℕ) (base : KeyHandoff) (s : Site) : Type 0 where
   pub handed : got_of (Some base.place) (known_of (view s.pass.now) base_lane) ≡ handing base.key base.generation
   pub reached : look ≤ base.generation
 
--- `filled`: the batch of this width has to be filled. If so, the CPU's key is of the generation that the look found
+-- `filled` is true if and only if the batch of this width has to be filled. If so, the CPU's key is of the generation
+-- that the look found
 pub record IsFill (look width : ℕ) (filled : Bool) (s : Site) : Type 0 where
   pub known : 1 ≤ look
   pub not_back : (own_cpu s).cpu.generation ≤ look
   pub fills : filled ≡ must_fill look width ((own_cpu s).fills width)
   pub fresh : (filled ≡ false) ⊎ (look ≡ (own_cpu s).cpu.generation)
 
--- the caller holds only this lane, and may put it back with the entry `e`
+-- the caller holds only `lane`, and may put it back with the entry `e`
 pub record CanVisit (lane : ℕ) (h : Held) (e : LaneEntry) (s : Site) : Type 0 where
   pub has : HasInHands (hand h.turn (after_of e) (raise_of e) ∷ []) s
   pub lane_is : h.turn.lane ≡ lane
@@ -145,25 +145,25 @@ pub record CanVisit (lane : ℕ) (h : Held) (e : LaneEntry) (s : Site) : Type 0 
   pub room : HasRoom 1 s
   pub early : s.pass.now.stamp ≤ last_stamp
 
--- the held value is the lane's value after the entry
+-- the value in `h` is the one that `lane` has after the entry `e`
 abbrev pub IsMade : ℕ → Held → LaneEntry → Site → Type 0
 IsMade lane h e s = ValueRepresents lane h.state (made_of (lane_of s lane) e (handed lane e (view s.pass.now)))
 
--- After a call
+-- The site after a call, compared with the site before it
 
--- the same caller at the same table, with the same setting, pass and trace
+-- the same table and setting, and the same references to the pass and the trace, whose contents may differ
 pub record Same (m n : Site) : Type 0 where
   pub lanes : n.lanes.now ≡ m.lanes.now
   pub set : n.set ≡ m.set
   pub pass : n.pass.ghost_name ≡ m.pass.ghost_name
   pub trace : n.trace.ghost_name ≡ m.trace.ghost_name
 
--- from `m` to `n` exactly these steps were made
+-- from `m` to `n` exactly the steps `made_steps` were made
 pub record Walked (made_steps : List MadeStep) (m n : Site) : Type 0 where
   pub same : Same m n
   pub recorded : TraceRecords m.set (at m) (at n) made_steps
 
--- a lane was taken; other lanes may be held
+-- the caller took `lane`, as `h`; it may hold other lanes
 pub record Took (lane : ℕ) (h : Held) (m n : Site) : Type 0 where
   pub walked : Walked [] m n
   pub trace : n.trace.now ≡ m.trace.now
@@ -178,7 +178,7 @@ pub record Took (lane : ℕ) (h : Held) (m n : Site) : Type 0 where
   pub low : lane ≡ base_lane → IsLow n
   pub agrees : lane ≡ base_lane → Agrees (lane_of n base_lane).base
 
--- a lane was taken while no other lane was held
+-- the caller took `lane`, as `h`, while it held no other lane
 pub record Entered (lane : ℕ) (h : Held) (m n : Site) : Type 0 where
   pub walked : Walked [] m n
   pub trace : n.trace.now ≡ m.trace.now
@@ -192,13 +192,13 @@ pub record KeepsTrace (m n : Site) : Type 0 where
   pub trace : n.trace.now ≡ m.trace.now
   pub has : HasInHands [] n
 
--- a lane was given back with an unchanged value
+-- the caller gave back its lane without a visit, and with an unchanged value
 pub record GaveBack (m n : Site) : Type 0 where
   pub walked : Walked [] m n
   pub trace : n.trace.now ≡ m.trace.now
   pub has : HasInHands [] n
 
--- one look was made, and the same lanes are held as before
+-- one look was made, which found the generation `found`, and the same lanes are held as before
 pub record Looked (found : ℕ) (m n : Site) : Type 0 where
   pub walked : Walked (looked found ∷ []) m n
   pub room : length n.trace.now ≡ length m.trace.now + 1
@@ -212,12 +212,12 @@ pub record Looked (found : ℕ) (m n : Site) : Type 0 where
   pub cpus : (c : ℕ) → c < m.lanes.now.cpus → (lane_of m (cpu_lane c)).cpu.cpu.generation ≤ found
   pub hands : (hands : List HeldLane) → HasInHands hands m → HasInHands hands n
 
--- one look was made, and no lane is held
+-- one look was made, which found the generation `found`, and no lane is held
 pub record LookedIdly (found : ℕ) (m n : Site) : Type 0 where
   pub looked : Looked found m n
   pub has : HasInHands [] n
 
--- the CPU that the caller runs on was taken, and then one look was made
+-- the caller took the CPU that it runs on, and then made one look
 pub record EnteredCpu (cpu : Held) (found : ℕ) (m n : Site) : Type 0 where
   pub walked : Walked (looked found ∷ []) m n
   pub room : length n.trace.now ≡ length m.trace.now + 1
@@ -227,7 +227,7 @@ pub record EnteredCpu (cpu : Held) (found : ℕ) (m n : Site) : Type 0 where
   pub small : found < 2 ^ 63
   pub not_back : (own_cpu n).cpu.generation ≤ found
 
--- a visit was made; other lanes may be held
+-- a visit with the entry `e` was made; other lanes may be held
 pub record Visits (h : Held) (e : LaneEntry) (m n : Site) : Type 0 where
   pub same : Same m n
   pub room : length n.trace.now ≡ length m.trace.now + 1
@@ -240,7 +240,7 @@ pub record Visits (h : Held) (e : LaneEntry) (m n : Site) : Type 0 where
   pub visited : (lane : ℕ) → h.turn.lane ≡ lane → Visited m.set (at m) (at n) lane h.turn.place (lane_of m lane) e
       (handed lane e (view m.pass.now))
 
--- a visit was made, and no lane is held
+-- a visit of `lane` with the entry `e` was made, and no lane is held
 pub record VisitedIdly (lane : ℕ) (h : Held) (e : LaneEntry) (m n : Site) : Type 0 where
   pub same : Same m n
   pub has : HasInHands [] n
@@ -248,14 +248,14 @@ pub record VisitedIdly (lane : ℕ) (h : Held) (e : LaneEntry) (m n : Site) : Ty
   pub room : length n.trace.now ≡ length m.trace.now + 1
   pub visited : Visited m.set (at m) (at n) lane h.turn.place (lane_of m lane) e (handed lane e (view m.pass.now))
 
--- a visit was made, and it served these bytes
+-- a visit of `lane` with the entry `e` was made, and it served `bytes`
 pub record VisitedServing (lane : ℕ) (h : Held) (e : LaneEntry) (bytes : List ℕ) (m n : Site) : Type 0 where
   pub same : Same m n
   pub has : HasInHands [] n
   pub room : length n.trace.now ≡ length m.trace.now + 1
   pub served : Served m.set (at m) (at n) lane h.turn.place e bytes
 
--- a root was extracted for the held base
+-- a root was extracted from the pool for the held base
 pub record Extracted (base : Held) (root : ExtractedRoot) (m n : Site) : Type 0 where
   pub same : Same m n
   pub holds : HoldsWith (Some root.place) 0 base_lane base n
@@ -266,7 +266,7 @@ pub record Extracted (base : Held) (root : ExtractedRoot) (m n : Site) : Type 0 
   pub visited : (s : Model) × Visited m.set (at m) (at n) pool_lane root.place s
       (Pool (Extract m.set.hw base.turn.place)) nothing
 
--- a root was extracted, and the generation was raised to that of the base's next reseed
+-- a root was extracted from the pool, and the generation was raised to that of the base's next reseed
 pub record ExtractedRaising (base : Held) (root : ExtractedRoot) (m n : Site) : Type 0 where
   pub same : Same m n
   pub holds : HoldsWith (Some root.place) 1 base_lane base n
@@ -291,17 +291,18 @@ pub record Refilled (cpu : Held) (base : KeyHandoff) (m n : Site) : Type 0 where
 abbrev pub IsOneStep : Site → Site → Type 0
 IsOneStep m n = length n.trace.now ≡ length m.trace.now + 1
 
--- a call of at most this many steps was made, and no lane is held; P holds for the lists and the call's effects
+-- a call of at most `steps` steps was made, and no lane is held; P holds for the lanes' lists of visits and the call's
+-- effects
 pub record DoesIn (steps : ℕ) (P : (ℕ → List Visit) → List Effect → Type 0) (m n : Site) : Type 0 where
   pub same : Same m n
   pub has : HasInHands [] n
   pub room : length n.trace.now ≤ length m.trace.now + steps
   pub did : MakesIn P m.set (at m) (at n)
 
--- a call of at most this many steps was made, and no lane is held; P holds for the call's effects
+-- a call of at most `steps` steps was made, and no lane is held; P holds for the call's effects
 abbrev pub Does : ℕ → (List Effect → Type 0) → Site → Site → Type 0
 Does steps P m n = DoesIn steps (λ visits. P) m n
 
--- the call completed an event, with this answer and these data
+-- the call completed the event `event`, in at most `steps` steps, with the answer `answer` and the data `shown`
 abbrev pub Completes : ℕ → Event → Answer → Shown → Site → Site → Type 0
 Completes steps event answer shown m n = Does steps (IsOutcomeOf (setting_of m.set) event answer shown) m n

@@ -19,7 +19,7 @@ use Rattle.lane_table.specs.Calls.{view}
 use Rattle.lane_table.specs.Advances.{MadeStep, visited, step_of, Advances}
 use Rattle.rng_core.specs.declared.setting.Setting.{Setting}
 
--- the knowledge of a pass, and the steps so far
+-- the knowledge of a pass (`view`), and the steps that its trace has so far
 pub record Moment : Type 0 where
   pub view : View
   pub steps : List Step
@@ -30,13 +30,15 @@ knowing v steps = record { view = v; steps = steps }
 abbrev pub moment : Pass → List Step → Moment
 moment pass steps = knowing (view pass) steps
 
--- from `m` to `n` the pass made exactly these steps, the trace lists them, and a transcript can have each (`StepFits`)
+-- from `m` to `n` the pass made exactly the steps `made_steps`, the trace lists them, and a transcript can have each
+-- (`StepFits`)
 pub record TraceRecords (set : Setting) (m n : Moment) (made_steps : List MadeStep) : Type 0 where
   pub trace : n.steps ≡ m.steps ++ map step_of made_steps
   pub went : Advances set.caller set.event (length m.steps) m.view n.view made_steps
   pub fits : AllByRecursion StepFits (map step_of made_steps)
 
--- the view knows the visit at the mark: its entry, the key that it received, and the lane's model before it
+-- the view knows the visit at the mark: its entry `e`, the key `got` that it received, and the lane's model `s` (its
+-- value in the proofs) before it
 pub record Met (v : View) (mark : Mark) (s : Model) (e : LaneEntry) (got : Handed) : Type 0 where
   pub near : index_of mark.lane < length v.lanes
   pub visit : Visit
@@ -45,7 +47,8 @@ pub record Met (v : View) (mark : Mark) (s : Model) (e : LaneEntry) (got : Hande
   pub was_handed : visit.got ≡ got
   pub before : replay (take mark.place (known_of v (index_of mark.lane))) ≡ s
 
--- one visit was made, of this lane and at this place
+-- one visit was made, of `lane` at `place`, with the entry `e`; it received the key `got`, and the lane's model before
+-- it was `s`
 pub record Visited (set : Setting) (m n : Moment) (lane place : ℕ) (s : Model) (e : LaneEntry) (got : Handed)
     : Type 0 where
   pub mark : Mark
@@ -54,7 +57,7 @@ pub record Visited (set : Setting) (m n : Moment) (lane place : ℕ) (s : Model)
   pub recorded : TraceRecords set m n (visited mark e ∷ [])
   pub met : Met n.view mark s e got
 
--- the added steps begin with a look
+-- `after` is `before` and more steps, the first of which is a look
 pub record BeginsWithLook (before after : List Step) : Type 0 where
   pub look : ℕ
   pub rest : List Step

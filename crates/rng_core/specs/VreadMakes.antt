@@ -24,12 +24,12 @@ use Rattle.rng_core.specs.Makes.{Makes, setting_of}
 use Rattle.rng_core.specs.declared.site.Site.{Site}
 use Rattle.rng_core.specs.Sites.{Same, HasInHands, at, seen_by}
 
--- the result of a call, without the way it ended
+-- the result of a vgetrandom call: success or an error, without how the call ended (`VEnd`)
 abbrev pub done_of : Result VEnd Errno → Result (Unit {0}) Errno
 done_of (Ok end) = Ok tt
 done_of (Err errno) = Err errno
 
--- from `v` to `w` the pass made one look, which found this generation and is no step of the trace
+-- from the view `v` to `w` the pass made one look, which found the generation `found` and is no step of the trace
 pub record OnlyLooked (found : ℕ) (v w : View) : Type 0 where
   pub same : SameView v w
   pub lanes : w.lanes ≡ v.lanes
@@ -39,7 +39,7 @@ pub record OnlyLooked (found : ℕ) (v w : View) : Type 0 where
   pub above : floor v ≤ found
   pub known : found ≤ floor w
 
--- the batch served the read, after one look
+-- the state's batch served the read, after one look
 pub record LocallyServed (n flags : ℕ) (s t : VgetrandomState) (out : List ℕ) (set : Setting)
     (l m : Moment) : Type 0 where
   pub found : ℕ
@@ -60,7 +60,7 @@ pub record Unserved (n flags : ℕ) (s : VgetrandomState) (v w : View) : Type 0 
   pub untried : tries_local n flags [] ≡ false → w ≡ v
   pub tried : tries_local n flags [] ≡ true → Refused n s v w
 
--- the system has to serve the read: the state and the trace are unchanged
+-- the system call has to serve the read: the vgetrandom state and the trace are unchanged
 pub record LeftToSystem (n flags : ℕ) (s t : VgetrandomState) (l m : Moment) : Type 0 where
   pub state : t ≡ s
   pub steps : m.steps ≡ l.steps
@@ -92,8 +92,8 @@ vread_meaning effects answer shown entries before t = record {
   after = with_state before t;
 }
 
--- for each caller with this setting and with `s` as its current state, these are the effects of a read that changes the
--- state to `t`
+-- for each caller with the given setting and the current state `s`, the given effects are those of a read that changes
+-- the state to `t`
 abbrev pub VreadLine : CallSetting → ℕ → ℕ → VgetrandomState → VgetrandomState → Answer → Shown → List VEntry →
     List Effect →
     Type 0
@@ -111,9 +111,9 @@ pub record VreadMakes (n flags : ℕ) (s t : VgetrandomState) (answer : Answer) 
   pub did : Makes (VreadLine (setting_of set) n flags s t answer shown entries) set
       (knowing looked l.steps) m
 
--- Over a site
+-- Reads at a site (a call's table, pass, trace and setting)
 
--- the state's generation is at most the last one that the caller has seen published
+-- the vgetrandom state's generation is at most the last one that the caller has seen published
 abbrev pub IsCurrent : VgetrandomState → Site → Type 0
 IsCurrent st s = st.generation ≤ published_by (seen_by s)
 

@@ -1,4 +1,4 @@
--- The length of a wait, and the ways it ends.
+-- The number of steps that a wait for readiness may take, and the ways it ends.
 use Rattle.std.specs.Prelude.{◌≡◌, ℕ, ◌-◌, ◌*◌, [], ◌≤◌, Result, Ok, Err}
 use Rattle.key_names.specs.declared.errno.Errno.{Errno}
 use Rattle.key_names.specs.declared.errno.Errno.TheVariants.{Interrupted}

@@ -1,6 +1,6 @@
 //! The callers: how many run, and the fork of a new one.
 //!
-//! The kernel does not count running callers, so no function here follows one of the kernel's:
+//! The kernel does not count running callers, so it has no functions like these:
 //!
 //! - `fork`: records the child, and splits the caller's pass.
 //! - `stall`: the caller stops running, while a child runs in the caller's thread.

@@ -84,7 +84,7 @@ pub(crate) fn sample(state: &mut LaneState, v1: u64, v2: u64, now: u64) -> bool
     with_cpu!(state, lane => lane.fast.mix(v1, v2, now))
 }
 
-/// Takes the fast pool's dump for the input pool.
+/// Takes the dump out of the CPU's fast pool; the caller mixes it into the input pool.
 pub(crate) fn dump(state: &mut LaneState, now: u64) -> Dump
     requires { IsCpuValue state.old }
     ensures made { (lane : ℕ) (s : Model) (got : Handed) → 2 ≤ lane → ValueRepresents lane state.old s

@@ -79,7 +79,7 @@ pub(crate) fn base_generation(state: &LaneState) -> u64
     with_base!(state, lane => lane.base.generation())
 }
 
-/// Whether no caller runs.
+/// Whether the base counts no running caller.
 pub(crate) fn is_idle(state: &LaneState) -> bool
     requires { (s : Model) × ValueRepresents 1 state.now s }
     ensures { (s : Model) → ValueRepresents 1 state.now s → IsTrue result ↔ (s.base.running ≡ 0) }
@@ -104,7 +104,7 @@ pub(crate) fn up(state: &mut LaneState)
     with_base!(state, lane => lane.base.up())
 }
 
-/// Counts one running caller less.
+/// Counts one running caller fewer.
 pub(crate) fn down(state: &mut LaneState)
     requires { (s : Model) × ValueRepresents 1 state.old s }
     ensures { (s : Model) → ValueRepresents 1 state.old s
@@ -142,7 +142,7 @@ pub(crate) fn fire(state: &mut LaneState, root: [u8; 32], now: u64)
     with_base!(state, lane => lane.base.fire(root, now))
 }
 
-/// Takes the key for a refill of a CPU.
+/// Takes from the base the key for a refill of a CPU.
 pub(crate) fn hand_over(state: &mut LaneState) -> [u8; 32]
     requires { (s : Model) × ValueRepresents 1 state.old s }
     ensures made { (s : Model) (got : Handed) (cpu place : ℕ) → ValueRepresents 1 state.old s

@@ -27,7 +27,8 @@ module _ (lanes : ℕ) (visits : ℕ → List Visit) (callers : StateLists) (ok 
   sides : SameHeldLane lanes (visits 0) (visits 1)
   sides = beside lanes visits callers ok
 
-  -- a visit that names an entry of its parent lane answers that entry in the book
+  -- a visit that names an entry of its parent lane (the pool for the base, the base for a CPU) answers that entry in
+  -- the book
   extraction_answered : (p i : ℕ) (y : Visit) → get_elem? (visits 1) i ≡ some y → after_of y.entry ≡ Some p →
       ExtractionAnswered book p i
   extraction_answered p i y at names =
@@ -44,7 +45,8 @@ module _ (lanes : ℕ) (visits : ℕ → List Visit) (callers : StateLists) (ok 
       ap (λ es. option_and_then base_refill_of (slice_get es k)) (cpu_listed lanes visits callers c below)
       ∙ ap (option_and_then base_refill_of) v.conforms ∙ sym (ap after_of v.is) ∙ names
 
-  -- the book's visit at place `following` is an extraction or a refill, and names place `place` of the lane `lane`
+  -- the visit at place `following` of the list `from` is an extraction or a refill, and names place `place` of the lane
+  -- `lane`
   pub record Ahead (lane following place : ℕ) (from : List Visit) : Type 0 where
     pub visit : Visit
     pub conforms : get_elem? from following ≡ some visit

@@ -25,7 +25,8 @@ not_used_up look width fill keeps = go (nat_le (96 / width) fill.count) refl
     go true is = let p : false ≡ true = keeps ∙ ap (λ b. b || not (look == fill.look)) is in cc
     go false is = grind (arith, nat_tests)
 
--- the bytes are those of a batch after this fill. The fill used the key in use at the fill's place
+-- `RestOf fill bytes`: `bytes` are those of a batch of CPU `c` after the fill `fill`, which used the key in use at the
+-- fill's place
 module _ (lists : Lists) (c width : ℕ) (some : 1 ≤ width) (within : width ≤ 96) where
   abbrev pub RestOf : Option Fill → List ℕ → Type 0
   RestOf None bytes = ⊤
@@ -72,7 +73,7 @@ module _ (lists : Lists) (c width : ℕ) (some : 1 ≤ width) (within : width �
       one_served (fills width) bytes
       (λ fill filled. not_used_up look width fill (subst P same keeps ∙ ap (must_fill look width) filled)) rest
 
-  -- each entry that fits preserves `RestOf`
+  -- if the entry `e` fits the state `s`, `RestOf` still holds after `e`
   pub rest_next : (s : CpuState) (e : CpuEntry) (used bytes : List ℕ) → used ≡ cpu_used_at lists c s.place →
       CpuFits s e → RestOf (s.fills width) bytes →
       RestOf (fills_after s.place e (cpu_key_in_use e s.key) s.fills width)

@@ -1,5 +1,5 @@
--- Before each place of a CPU's list, the CPU's model agrees with the entries before that place: in the generator, in
--- the fills (without keys and places), in the bytes of the batches, and in the fast pool.
+-- Before each place of a CPU's list, the CPU's model (its value in the proofs) agrees with the entries before that
+-- place: in the generator, in the fills (without keys and places), in the bytes of the batches, and in the fast pool.
 use Rattle.std.proofs.Common.{◌≡◌, ℕ, suc, ◌+◌, ◌≤◌, ◌<◌, Bool, true, false, List, length, take, refl, sym, ap, ◌∙◌, subst, arith, Some, None, Option}
 use Rattle.std.specs.Prelude.{◌==◌, slice_get, if◌then◌else◌}
 use Rattle.std.specs.List.{fold}
@@ -76,7 +76,7 @@ pub record CpuAlike (i : ℕ) (m : CpuModel) (s : CpuBytes) : Type 0 where
   pub bytes : (w : ℕ) → m.bytes w ≡ s.batch w
 
 module _ (lists : Lists) (c : ℕ) where
-  -- the model's key in use at an entry has the value that the list gives
+  -- if the model `m` agrees with the values `s`, both give the same value of the key in use at the entry `e`
   pub used_met : (i : ℕ) (m : CpuModel) (s : CpuBytes) (e : CpuEntry) (got : Handed) →
       HandsRefill lists e (generator_of got) →
       CpuAlike i m s → cpu_used e got m.cpu ≡ cpu_value_in_use lists e s.value
@@ -100,7 +100,7 @@ module _ (lists : Lists) (c : ℕ) where
         ∙ ap (λ bytes. batch_step w (cpu_value_in_use lists e s.value) (s.named.fills w) bytes e) (met.bytes w);
   }
 
--- an entry of a CPU at a place receives the key that the base's refill for this place hands over
+-- the entry `e` at place `i` of CPU `c` receives the key that the base's refill for this place hands over
 pub record RefillHanded (lists : Lists) (c i : ℕ) (e : CpuEntry) (got : Handed) : Type 0 where
   pub handed : HandsRefill lists e (generator_of got)
   pub answers : (b : ℕ) → base_refill_of e ≡ Some b → refill_at lists.base b ≡ Some (c, i)
@@ -151,7 +151,7 @@ module _ (lanes c : ℕ) (lists : Lists) (xs : List Visit) (lane : CpuLane lanes
       ∙ ap (λ f. fast_step f v.entry) now
       ∙ sym (fold_next fast_step fast_start es i v.entry v.conforms))
 
-  -- before each place, the named state is the one that the book gives
+  -- before each place `i`, the CPU's state with names of keys is the one that the book gives
   pub state_before : (i : ℕ) → (bytes_before i).named ≡ cpu_after lists.base c (take i es)
   state_before i = bytes_named lists c cpu_bytes_start (take i es)
 

@@ -1,4 +1,5 @@
--- The effect that the book has at a visit's place agrees with the model that the visit's maker found.
+-- The effect that the book has at a visit's place agrees with the lane's model (its value in the proofs) that the
+-- visit's maker found.
 use Rattle.std.proofs.Common.{◌≡◌, ℕ, ◌+◌, ◌≤◌, ◌<◌, true, false, List, length, take, refl, sym, ap, ◌∙◌, subst, arith, Some, None, Option}
 use Rattle.std.specs.Prelude.{slice_get}
 use Rattle.std.proofs.lemmas.Option.{slice_get_within}
@@ -117,7 +118,8 @@ module _ (lanes : ℕ) (visits : ℕ → List Visit) (callers : StateLists) (ok 
   sides : SameHeldLane lanes (visits 0) (visits 1)
   sides = beside lanes visits callers ok
 
-  -- the effect of a visit of the pool agrees with the model before it
+  -- the pool's visit `x` at place `i`, with the entry `e`, has an effect in the book that agrees with the pool's model
+  -- before it
   pub pool_effect : (i : ℕ) (x : Visit) (e : PoolEntry) → slice_get (visits 0) i ≡ Some x → x.entry ≡ Pool e →
       PoolMet book i (replay (take i (visits 0))).pool e
   pool_effect i x e at is =
@@ -131,7 +133,8 @@ module _ (lanes : ℕ) (visits : ℕ → List Visit) (callers : StateLists) (ok 
         after = ap (λ s. pool_step s e) before;
       }
 
-  -- the effect of a visit of the base agrees with the model before it
+  -- the base's visit `x` at place `i`, with the entry `e`, has an effect in the book that agrees with the base's model
+  -- before it
   pub base_effect : (i : ℕ) (x : Visit) (e : BaseEntry) → slice_get (visits 1) i ≡ Some x → x.entry ≡ Base e →
       BaseMet book i (replay (take i (visits 1))).base x.got e
   base_effect i x e at is =
@@ -152,7 +155,8 @@ module _ (lanes : ℕ) (visits : ℕ → List Visit) (callers : StateLists) (ok 
         serves = ap (λ key. base_serves key e) (sym (base_used lanes (visits 0) (visits 1) sides i x e at is));
       }
 
-  -- the effect of a visit of a CPU agrees with the model before it
+  -- the visit `x` of CPU `c` at place `i`, with the entry `e`, has an effect in the book that agrees with the CPU's
+  -- model before it
   pub cpu_effect : (c i : ℕ) (x : Visit) (e : CpuEntry) → c + 2 < lanes → slice_get (visits (c + 2)) i ≡ Some x →
       x.entry ≡ Cpu e → IsIntOfBatch e → CpuMet book c i (replay (take i (visits (c + 2)))).cpu x.got e
   cpu_effect c i x e below =

@@ -26,7 +26,7 @@ continues_before lanes v w visits sized grows c = record {
   closed = c.closed;
 }
 
--- at any moment the known lists of a pass are half-finished lanes
+-- at any moment the lists that a pass with the view `v` knows make half-finished lanes
 module _ (v : View) (callers : StateLists) (low : 2 ≤ length v.lanes) (ok : Consistent v) where
   pub known_lanes : ClosedLanes (length v.lanes) (known_of v)
   known_lanes = record { low = low; closed = ok.closed; lawful = ok.lawful }
@@ -34,7 +34,7 @@ module _ (v : View) (callers : StateLists) (low : 2 ≤ length v.lanes) (ok : Co
   pub known_half_finished : HalfFinishedLanes (book_lists (length v.lanes) (known_of v) callers)
   known_half_finished = half_finished (length v.lanes) (known_of v) callers known_lanes ok.half
 
--- at the end the known lists of a pass are lawful lanes
+-- at the table's end (`Ended`) the lists that a pass with the view `v` knows make lawful lanes
 module _ (v : View) (callers : StateLists) (low : 2 ≤ length v.lanes) (ended : Ended (length v.lanes) v) where
   abbrev lanes : ℕ
   lanes = length v.lanes
@@ -45,7 +45,8 @@ module _ (v : View) (callers : StateLists) (low : 2 ≤ length v.lanes) (ended :
   pub ended_lawful : LawfulLanes (book_lists lanes (known_of v) callers)
   ended_lawful = lawful_lanes lanes (known_of v) callers ended_lanes ended.answered
 
-  -- if each mark is that of a visit, and there are as many marks as visits made, the marks are the book's visits
+  -- if each mark is that of a visit (`MarksVisit`), and there are as many marks as visits made, the marks are exactly
+  -- those of the book's visits
   pub ended_visits : (marks : List MarkBy) → AllByRecursion (MarksVisit lanes (known_of v)) marks →
       length marks ≡ sum_by made_in v.lanes → VisitsAre (book_of lanes (known_of v) callers) marks
   ended_visits marks all many =

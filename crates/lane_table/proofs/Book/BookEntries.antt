@@ -1,4 +1,5 @@
--- The entries of a lane's list in the book: each visit of a lawful lane has its entry there, at its own place.
+-- The entries of a lane's list in the book: the book has the entry of each visit of a lawful lane, at the visit's
+-- place.
 use Rattle.std.proofs.Common.{◌≡◌, ℕ, ◌+◌, ◌<◌, List, length, take, refl, sym, ap, subst, ◌∙◌, arith, Some, Option}
 use Rattle.std.specs.Prelude.{slice_get}
 use Rattle.std.specs.Option.{option_map, option_map_or}
@@ -16,7 +17,7 @@ use Rattle.lane_table.specs.Meaning.{IsOf, IsLater, NamesWithin, Fits, MayCome, 
 use Rattle.lane_table.specs.BookLists.{pool_entry, base_entry, cpu_entry, book_visit, book_visits, entries}
 use Rattle.lane_table.proofs.Lists.Places.{GivesEach, filter_map_at, filter_map_length, some_at}
 
--- each visit of a list has an entry of one kind
+-- `of` accepts the entry of each visit of `xs`, so all entries are of one kind (pool, base or CPU)
 pub record OneKind {E : Type 0} (of : LaneEntry → Option E) (xs : List Visit) : Type 0 where
   pub each : (i : ℕ) (x : Visit) → slice_get xs i ≡ Some x → (e : E) × (of x.entry ≡ Some e)
 
@@ -46,7 +47,7 @@ module _ {E : Type 0} (of : LaneEntry → Option E) (xs : List Visit) (kind : On
   pub entries_length : length (entries of xs) ≡ length xs
   entries_length = length-map (book_visits of xs) (λ (v : of_book.Visit E). v.entry) ∙ visits_length
 
--- the entries of one kind of lane
+-- how an entry of type `E` of the lane `lane` becomes a `LaneEntry` (`wrap`), and is found in one (`of`)
 pub record Kind (E : Type 0) (lane : ℕ) : Type 0 where
   pub wrap : E → LaneEntry
   pub of : LaneEntry → Option E
@@ -77,7 +78,8 @@ base_kind = record { wrap = Base; of = base_entry; unwraps = λ e. refl; only = 
 abbrev pub cpu_kind : (c : ℕ) → Kind CpuEntry (c + 2)
 cpu_kind c = record { wrap = Cpu; of = cpu_entry; unwraps = λ e. refl; only = cpu_only c }
 
--- `x` is the visit at place `i` of a lawful lane: its entry is in the book at that place, and may come there
+-- `x` is the visit at place `i` of a lawful lane: the book has its entry at that place, and the entry may come after
+-- those before it
 pub record VisitAt {E : Type 0} {lane : ℕ} (k : Kind E lane) (lanes : ℕ) (xs : List Visit) (i : ℕ)
     (x : Visit) : Type 0 where
   pub entry : E
@@ -148,7 +150,7 @@ module _ {E : Type 0} {lane : ℕ} (k : Kind E lane) (lanes : ℕ) (xs : List Vi
         fits = subst (Fits (replay (take i xs)) x.0.got) wrapped v.may.fits;
       }
 
-  -- each visit of the book has its visit in the lane
+  -- each visit of the book's list is made from a visit of the lane, at the same place
   pub visited_at : (i : ℕ) (v : of_book.Visit E) → slice_get (book_visits k.of xs) i ≡ Some v → VisitedAt k xs i v
   visited_at i v is =
       let in_book : i < length (book_visits k.of xs) = slice_get_within (book_visits k.of xs) i v is in

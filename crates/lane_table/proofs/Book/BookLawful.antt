@@ -46,7 +46,8 @@ root_conforms : (pool : List PoolEntry) (s : BaseState) (o : Option ℕ) (least 
 root_conforms pool s None least same later named = tt
 root_conforms pool s (Some place) least same later named = (omega arith, named place refl)
 
--- the base's list. If an entry names a root, the extraction of that root names the entry's place
+-- `xs` is the base's list, and is lawful. If one of its entries names a root, the extraction of that root names the
+-- entry's place
 module _ (lanes : ℕ) (pool : List PoolEntry) (xs : List Visit) (lawful : LawfulLane lanes 1 xs)
     (value : (i : ℕ) → i ≤ length xs → (replay (take i xs)).base ≡ after_entries pool (take i (entries base_entry xs)))
     (rooted : (i place : ℕ) (x : Visit) (e : BaseEntry) → slice_get xs i ≡ Some x → x.entry ≡ Base e →
@@ -86,7 +87,7 @@ must_fill_bare : (look width : ℕ) (o : Option Fill) → must_fill look width (
 must_fill_bare look width None = refl
 must_fill_bare look width (Some fill) = refl
 
--- an entry that fits a CPU's model fits the state of the CPU's list
+-- if the model `m` agrees with the values `s`, an entry that fits `m` also fits the state of the CPU's list
 module _ (i : ℕ) (m : CpuModel) (s : CpuBytes) (met : CpuAlike i m s) where
   generation_met : m.cpu.generation ≡ s.named.generation
   generation_met = ap (λ (v : CpuValue). v.generation) met.cpu
@@ -147,7 +148,7 @@ module _ (lists : Lists) (c i : ℕ) (got : Handed) where
   refill_conforms Prepare reached h = tt
   refill_conforms Online reached h = tt
 
--- a CPU's list in which each named refill is one of the base
+-- `xs` is the list of CPU `c`. Each refill that one of its entries names is in the base's list
 module _ (lanes c : ℕ) (lists : Lists) (xs : List Visit) (lane : CpuLane lanes c lists xs) where
   abbrev cpu_es : List CpuEntry
   cpu_es = entries cpu_entry xs

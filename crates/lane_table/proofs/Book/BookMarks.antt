@@ -33,7 +33,7 @@ stamp_of x = (x.stamp, x.who)
 abbrev pub visits_in : (ℕ → List Visit) → ℕ → ℕ → ℕ
 visits_in visits lane count = sum_by (λ lane. length (visits lane)) (range_with_len lane count)
 
--- a mark is that of a visit, with the visit's maker
+-- the mark `by` has the lane, the place, the stamp and the maker of a visit in the lists `visits`
 abbrev pub MarksVisit : ℕ → (ℕ → List Visit) → MarkBy → Type 0
 MarksVisit lanes visits by =
     (x : Visit) × (index_of by.mark.lane < lanes)
@@ -98,7 +98,8 @@ module _ (lanes : ℕ) (visits : ℕ → List Visit) (callers : StateLists) (ok 
       let sum : visit_count book ≡ visits_in visits 0 (suc (suc (lanes - 2))) = omega arith in
       sum ∙ ap (visits_in visits 0) (sym all)
 
-  -- if each mark is that of a visit, and there are as many marks as visits, the marks are the book's visits
+  -- if each mark is that of a visit (`MarksVisit`), and there are as many marks as visits, the marks are exactly those
+  -- of the book's visits
   pub visits_are : (marks : List MarkBy) → AllByRecursion (MarksVisit lanes visits) marks →
       length marks ≡ visits_in visits 0 lanes → VisitsAre book marks
   visits_are marks all many = record {
@@ -138,7 +139,7 @@ times_of_marks place (m ∷ ms) =
     ∙ sym (sum_by-cons (λ mark. cond (mark.place == place) 1 0) m ms)
 
 module _ (xs : List Visit) where
-  -- a mark has the place and the stamp of a visit
+  -- `mark` has the place and the stamp of a visit in the list `xs`
   abbrev pub MarksPlace : Mark → Type 0
   MarksPlace mark = (x : Visit) × (slice_get xs mark.place ≡ Some x) × (x.stamp ≡ mark.stamp)
 

@@ -1,5 +1,5 @@
--- Each lane's model is the one that the book's lists give, and the key that each visit hands on is the one that the
--- book gives for the visit's place.
+-- Each lane's model (its value in the proofs) is the one that the book's lists give. The key that each visit hands on
+-- is the one that the book gives for the visit's place.
 use Rattle.std.proofs.Common.{◌≡◌, ℕ, ◌+◌, ◌≤◌, ◌<◌, List, length, take, sym, ap, ◌∙◌, subst, arith, Some, Option}
 use Rattle.std.specs.Prelude.{slice_get}
 use Rattle.key_names.specs.declared.entries.Taken.{Taken}
@@ -28,7 +28,7 @@ module _ (lanes : ℕ) (visits : ℕ → List Visit) (callers : StateLists) (ok 
   sides : SameHeldLane lanes (visits 0) (visits 1)
   sides = beside lanes visits callers ok
 
-  -- before each place, a CPU's model has the values of the book
+  -- before each place `i` of its list, the model of CPU `c` has the values that the book gives
   pub cpu_met_before : (c : ℕ) → c + 2 < lanes → (i : ℕ) → i ≤ length (visits (c + 2)) →
       CpuReplays book c (take i (cpu_list book c)) (replay (take i (visits (c + 2)))).cpu
   cpu_met_before c below i within =

@@ -1,4 +1,4 @@
--- Before each place of a CPU's list, the CPU's whole model is the one that the book gives.
+-- Before each place of a CPU's list, the CPU's whole model (its value in the proofs) is the one that the book gives.
 use Rattle.std.proofs.Common.{◌≡◌, ℕ, ◌≤◌, ◌<◌, List, length, take, replicate, refl, sym, ap, ◌∙◌, subst, arith, Some, Option}
 use Rattle.std.specs.Prelude.{slice_get}
 use Rattle.std.proofs.lemmas.Option.{slice_get_within}
@@ -39,7 +39,7 @@ module _ (lanes c : ℕ) (lists : Lists) (xs : List Visit) (lane : CpuLane lanes
       ap (cpu_value_at lists (cpu_value_after lists (take i es))) (sym is)
       ∙ ap (λ es. cpu_value_at lists (cpu_value_after lists (take i es)) (slice_get es i)) (sym lane.listed)
 
-  -- the model's key in use at a visit has the value that the book gives at that place
+  -- at the CPU's visit `x` with place `i`, the key in use in the model has the value that the book gives
   pub cpu_used_here : (i : ℕ) (x : Visit) (e : CpuEntry) → slice_get xs i ≡ Some x → x.entry ≡ Cpu e →
       cpu_used e x.got (model i).cpu ≡ cpu_used_at lists c i
   cpu_used_here i x e at is =

@@ -1,5 +1,6 @@
--- The book has each visit of the pool and of the CPUs, with its maker. Before each CPU visit, the book's fast pool is
--- the model's. Proofs that a transcript's samples are right use these lemmas.
+-- The book has each visit of the pool and of the CPUs, with its maker. Before each CPU visit, the book and the CPU's
+-- model (its value in the proofs) have the same fast pool. Proofs that a transcript's samples are right use these
+-- lemmas.
 use Rattle.std.proofs.Common.{◌≡◌, ℕ, ◌+◌, ◌≤◌, ◌<◌, inl, inr, List, [], length, take, sym, ap, ◌∙◌, arith, Some, None, Option}
 use Rattle.std.specs.Prelude.{slice_get}
 use Rattle.key_names.specs.declared.entries.PoolEntry.{PoolEntry}
@@ -20,7 +21,7 @@ module _ (lanes : ℕ) (visits : ℕ → List Visit) (callers : StateLists) wher
   abbrev book : Book
   book = book_of lanes visits callers
 
-  -- the book's visit of CPU `c` at this place is one of the CPU's lane
+  -- the book's visit `v` of CPU `c` at place `place` is made from the visit at that place of the CPU's lane
   pub record OfLane (c place : ℕ) (v : of_book.Visit CpuEntry) : Type 0 where
     pub below : c + 2 < lanes
     pub visited : VisitedAt (cpu_kind c) (visits (c + 2)) place v
@@ -44,7 +45,7 @@ module _ (lanes : ℕ) (visits : ℕ → List Visit) (callers : StateLists) wher
           ap (λ vs. slice_get vs place) (sym none) ∙ is in cc)
     ]
 
-    -- before each place, the fast pool of the book is the model's
+    -- before each place of the list of CPU `c`, the book and the CPU's model have the same fast pool
     pub fast_met : (c place : ℕ) → c + 2 < lanes → place ≤ length (visits (c + 2)) →
         fast_before (visits_of book c) place ≡ (replay (take place (visits (c + 2)))).cpu.fast
     fast_met c place below within =

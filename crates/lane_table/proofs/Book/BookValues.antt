@@ -1,5 +1,6 @@
--- Suppose that the lists are lawful and closed. Before each place, the models of the pool and the base have the values
--- that the earlier entries give. The key that a visit hands on has the value that the list gives for the visit's place.
+-- Suppose that the lists are lawful and closed. Before each place, the models (lanes' values in the proofs) of the pool
+-- and the base have the values that the earlier entries give. The key that a visit hands on has the value that the list
+-- gives for the visit's place.
 use Rattle.std.proofs.Common.{◌≡◌, ℕ, ◌≤◌, ◌<◌, List, length, take, refl, sym, ap, ◌∙◌, arith, Some}
 use Rattle.std.specs.Prelude.{slice_get, IsTrue}
 use Rattle.std.proofs.lemmas.Option.{slice_get_within}
@@ -81,7 +82,7 @@ module _ (lanes : ℕ) (following xs : List Visit) (ok : SameHeldLane lanes foll
   pub base_visit_at : (i : ℕ) (x : Visit) → slice_get xs i ≡ Some x → VisitAt base_kind lanes xs i x
   base_visit_at = lane_at base_kind lanes xs ok.base
 
-  -- an entry receives the root that it names
+  -- if an entry of the base names a root, the entry's visit received that root
   pub root_handed : (i : ℕ) (x : Visit) (e : BaseEntry) → slice_get xs i ≡ Some x → x.entry ≡ Base e →
       HandsRoot pool e x.got.key
   root_handed i x e at is place names =
@@ -103,7 +104,7 @@ module _ (lanes : ℕ) (following xs : List Visit) (ok : SameHeldLane lanes foll
       slice_get es i ≡ Some e
   base_entered = entered_at base_kind lanes xs ok.base
 
-  -- the model's key in use at an entry has the value that the list gives
+  -- at the base's entry with place `i`, the key in use in the base's model has the value that the lists give
   pub base_used : (i : ℕ) (x : Visit) (e : BaseEntry) → slice_get xs i ≡ Some x → x.entry ≡ Base e →
       key_in_use (root_of e) x.got.key (replay (take i xs)).base.key
       ≡ base_value_in_use pool e (base_value_after pool (take i es))

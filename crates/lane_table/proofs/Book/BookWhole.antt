@@ -33,7 +33,8 @@ use Rattle.lane_table.proofs.Book.BookLawful.{lawful_base, lawful_cpu}
 pub parent_cpu : (c : ℕ) → parent (c + 2) ≡ 1
 parent_cpu c = ap (λ b. cond b 0 1) (ne_eqb (c + 2) 1 (λ e. omega arith))
 
--- if `ahead_of` gives a lane and a place for an entry, the entry's own field has that place
+-- if `ahead_of` gives a lane and a place for an entry, the entry's own field (such as `base_place_of`) has the same
+-- place
 extracts : (e : PoolEntry) (lane place : ℕ) → ahead_of (Pool e) ≡ Some (lane, place) → base_place_of e ≡ Some place
 extracts (Extract hw base_place) lane place names =
     let p : ◌≡◌ {A = ℕ × ℕ} (1, base_place) (lane, place) = cc in ap (λ (n : ℕ × ℕ). Some n.1) p
@@ -58,7 +59,7 @@ entries_at (xs ∷ lanes) zero = refl
 entries_at (xs ∷ lanes) (suc c) = entries_at lanes c
 
 module _ (lanes : ℕ) (visits : ℕ → List Visit) (callers : StateLists) where
-  -- the book has a CPU's visits, and its entries
+  -- the list of CPU `c` in the book has the visits of the CPU's lane, and their entries
   pub cpu_visits : (c : ℕ) → c + 2 < lanes →
       list_at (book_of lanes visits callers).cpus c ≡ book_visits cpu_entry (visits (c + 2))
   cpu_visits c below =

@@ -91,7 +91,7 @@ module _ (caller event n : ℕ) (m m' : Seated) (two : 1 < length m.0.lanes) whe
         conform = tt;
       }
 
--- a single visit has one place in its own lane, and none in another
+-- a single visit, with the mark `mark`, has one place in the mark's lane, and none in another lane
 places_here : (mark : Mark) (e : LaneEntry) → places_in (index_of mark.lane) (visited mark e ∷ []) ≡ mark.place ∷ []
 places_here mark e = by_test (eqb (index_of mark.lane) (index_of mark.lane)) (same (index_of mark.lane))
   where
@@ -109,7 +109,7 @@ places_elsewhere lane mark e ne = ap (λ (z : Bool). cond z (mark.place ∷ []) 
     differs : (i j : ℕ) → i ≢ j → eqb i j ≡ false
     differs i j other = grind arith
 
--- a visit does not change the history of the other lanes
+-- a visit of `lane` does not change the pass's history (`SameHistory`) in another lane
 added_still : (lane : ℕ) (x : Visit) (m m' : Seated) → Added lane x m m' → (j : ℕ) → j < length m.0.lanes → j ≢ lane →
     SameHistory j m.0 m'.0
 added_still lane x m m' k j low ne = either (ahead_of x.entry) refl

@@ -56,7 +56,7 @@ all_but one two v w (h ∷ hands) keeps same not₁ not₂ all = (
   all_but one two v w hands keeps same not₁.1 not₂.1 all.2,
 )
 
--- an entry cannot both name a place ahead and name none
+-- an entry cannot both name a place of another lane and name none
 pub names_none : (e : Option (ℕ × ℕ)) (l b : ℕ) → e ≡ None → e ≡ Some (l, b) → ⊥
 names_none e l b none some = let f : ◌≡◌ {A = Option (ℕ × ℕ)} None (Some (l, b)) = sym none ∙ some in cc f
 
@@ -125,8 +125,8 @@ has_looked t caller hands g p p' k is looked = let same : (j : ℕ) → at j (vi
       every same xs all.2,
     )
 
--- let `h` be the lane taken last. If the entry of a visit of `h` names no place ahead, the pass still holds its other
--- lanes after the visit
+-- let `h` be the lane taken last. If the entry of a visit of `h` names no place of another lane, the pass still holds
+-- its other lanes after the visit
 pub has_put : (t : Lanes) (caller : ℕ) (h : HeldLane) (hands : List HeldLane) (x : Visit) (p p' : Pass) →
     ahead_of x.entry ≡ None → HoldsLanes t caller (h ∷ hands) p → IsSamePass t p p' →
     Added h.lane x p.seat.me p'.seat.me → HoldsLanes t caller hands p'
@@ -173,7 +173,7 @@ has_put_naming t caller h o hands x b p p' names k is added =
           ∙ k.away j low (ne, no));
     }
 
--- after a raise the pass still holds the base alone
+-- if a pass holds only the base and raises the generation, it still holds only the base
 pub has_raised : (t : Lanes) (caller : ℕ) (h : HeldLane) (g : ℕ) (p p' : Pass) → h.lane ≡ 1 →
     HoldsLanes t caller (h ∷ []) p →
     IsSamePass t p p' → Raised g p.seat.me p'.seat.me → HoldsLanes t caller (record h { raised = 1 } ∷ []) p'

@@ -24,13 +24,14 @@ use Rattle.lane_table.proofs.Rule.Naming.{parent_below, parent_cpu, same_pair}
 use Rattle.lane_table.proofs.Rule.Serving.{length_learn, learn_at}
 use Rattle.lane_table.proofs.Rule.Restaging.{Restages, at_with, consistent_same, grows_same, to_here, to_there, to_known, to_long}
 
--- A lane after a take
+-- The value that a pass gets when it takes a lane
 
 same_value : (i : ℕ) (c d : Content) (xs ys : List (ℕ × Option Content)) → (i, Some c) ∷ xs ≡ (i, Some d) ∷ ys → c ≡ d
 same_value i c d xs ys e = let X : Type 0 = ℕ × Option Content in let p : X = (i, Some c) in let q : X = (i, Some d) in
     let h : p ≡ q = cc e in let k : Some c ≡ Some d = ap (λ (z : X). z.1) h in cc k
 
--- a ticket was drawn, its turn came, and the value was taken out of its slot
+-- the pass drew a ticket of lane `i` (`m₁`), the turn of ticket `t` came (`m₂`), and the pass took the value out of the
+-- slot (`m₃`)
 module _ {i t : ℕ} {m m₁ m₂ m₃ : Seated} {c : Content} (near : i < length m.0.lanes) (r : Restages i m m₁)
     (got : Got i t m₁ m₂) (has : m₂.1 ≡ (i, Some c) ∷ rest m₂.1) (taken_out : m₃ ≡ (m₂.0, (i, None) ∷ rest m₂.1)) where
   content_is : got.content ≡ c
@@ -228,7 +229,7 @@ got_pass {i} {t} {m} {m'} got lanes p q h is is' table stamp caller = let v₀ :
       caller = caller;
     }
 
--- A view after a visit
+-- The view of a pass after its visit of a lane
 
 owing_other : (o : Option (ℕ × ℕ)) (place : ℕ) (u : View) (j : ℕ) → ((l b : ℕ) → o ≡ Some (l, b) → j ≢ l) →
     at j (owing o place u) ≡ at j u
@@ -341,7 +342,8 @@ after_pass i x lanes p q h e table stamp caller = let u =
       caller = caller;
     }
 
--- the value that was put back represents the list with the new visit
+-- if the content `c` has the value, the next place and the last stamp after the visit `x`, it represents the list `xs`
+-- with `x` at its end
 pub replays_push : (i first : ℕ) (xs : List Visit) (x : Visit) (c : Content) →
     ValueRepresents i c.state (model_step (replay xs) x) → c.place ≡ length xs + 1 → c.stamp ≡ x.stamp →
     Replays i first (xs ++ x ∷ []) c
@@ -351,7 +353,7 @@ replays_push i first xs x c value place stamp = record {
   stamp = stamp ∙ sym (last_push first xs x);
 }
 
--- Other calls
+-- The effects of the calls that neither take a lane nor make a visit
 
 pub left_is : (i : ℕ) (m m' : Seated) → i < length m.0.lanes → m' ≡ left i m → Left i m m'
 left_is i m m' near e = let v : View = m.0 in let a = staged Away (at i v) in let w : View = with_at i a v in

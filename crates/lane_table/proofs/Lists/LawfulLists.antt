@@ -25,7 +25,7 @@ use Rattle.lane_table.specs.References.{Pointed}
 use Rattle.lane_table.specs.WorldRule.{Begins, raises}
 use Rattle.lane_table.proofs.Lists.Lists.{at_below}
 
--- One more visit
+-- Lists with one more visit at the end
 
 pub lawful_more : {S E : Type 0} (May : S → E → Type 0) (step : S → E → S) (s : S) (xs : List E) (e : E) →
     LawfulFrom May step s xs → May (fold step s xs) e → LawfulFrom May step s (xs ++ e ∷ [])
@@ -57,12 +57,13 @@ least_fold [] s n h k = h
 least_fold (x ∷ xs) s n h k = least_fold xs (model_step s x) n
     (least_step (after_of x.entry) s.least n h (λ p e. k 0 p x refl e)) (λ b p y e q. k (suc b) p y e q)
 
--- no entry has named the next place of the parent lane yet
+-- if the references to the parent lane agree (`Pointed`), the least place that the next entry may name is at most the
+-- length of the parent lane's list
 pub least_below : (l : ℕ) (following here : List Visit) → Pointed l following here → (replay here).least ≤ length following
 least_below l following here h = least_fold here start_model (length following) (omega arith)
     (λ b p x e q. let t = h b p x e q in at_below following p t.0 t.1)
 
--- The generation
+-- The generation that a lawful list gives
 
 raised_by : (o : Option ℕ) (g : ℕ) → generation_after o g ≡ g + once o
 raised_by None g = omega arith

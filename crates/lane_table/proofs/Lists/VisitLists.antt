@@ -36,7 +36,7 @@ with_both (x ∷ xs) lists log all = all
 pub begins_push : (xs : List Visit) (x : Visit) → Begins xs (xs ++ x ∷ [])
 begins_push xs x = (x ∷ [], refl)
 
--- a prefix that is as long as its list is the whole list
+-- if `xs` is a prefix of `ys` and at least as long, `xs` and `ys` are equal
 pub begins_whole : (xs ys : List Visit) → Begins xs ys → length ys ≤ length xs → xs ≡ ys
 begins_whole xs ys (([], e)) h = sym (e ∙ append-nil xs)
 begins_whole xs ys ((z ∷ zs, e)) h = let n = ap length e in absurd (omega (arith, length-append xs (z ∷ zs)))
@@ -136,7 +136,7 @@ placed_push ps xs x p = let s = sum_by_push (λ (y : ℕ). cond (eqb y p) 1 0) p
 pub none_below : (p : ℕ) → once_below p 0 ≡ 0
 none_below p = grind (arith, nat_tests)
 
--- heard lists are still prefixes of a list after the list grew
+-- if each list of `lists` is a prefix of `xs`, it is also a prefix of each list `ys` that continues `xs`
 
 pub all_trans : (lists : List (List Visit)) (xs ys : List Visit) → AllBegin lists xs → Begins xs ys → AllBegin lists ys
 all_trans [] xs ys h k = tt

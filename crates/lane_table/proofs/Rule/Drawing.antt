@@ -1,4 +1,5 @@
--- The steps that draw a ticket, or read a lane's words, keep the rule and change the view as `Steps` defines.
+-- The steps that draw a ticket, or read a lane's ticket word or serving word, keep the rule and change the view as
+-- `Steps` defines.
 use Rattle.std.proofs.Common.{◌≡◌, ℕ, ◌+◌, ◌<◌, ◌≤◌, eqb, length, get_or, set, sym, refl, ap, ◌∙◌, subst, inl, inr, arith, le_refl}
 use Rattle.std.proofs.lemmas.List.{get_or-set_other, get_or-set_same}
 use mathlib.Core.Option.{none}
@@ -19,7 +20,7 @@ use Rattle.lane_table.proofs.Rule.Plain.{Plain}
 use Rattle.lane_table.proofs.Rule.Plain as plain
 
 module _ {first : ℕ} {s : St} {id : ℕ} {v : View} (h : Here first s id v) (i : ℕ) (near : i < length s.homes) where
-  -- a pass that is away from the lane owes no answer there
+  -- a pass that neither waits for the lane `i` nor holds it owes no answer at that lane
   pub away_owes_nothing : IsAway i v → OwesNothing i v
   away_owes_nothing away = plain.owes_nothing h i near
       (λ t hold. let g : Away ≡ Holding t = sym away ∙ hold in absurd (cc g))
@@ -33,7 +34,7 @@ module _ {first : ℕ} {s : St} {id : ℕ} {v : View} (h : Here first s id v) (i
   loaded_found : (at i v).loaded ≤ get_or s.words (ticket_word i) 0
   loaded_found = let a = loaded_below in let b = (h.rule.lane i near).ordered in omega arith
 
-  -- a draw of the ticket in the word keeps the rule
+  -- if a pass draws the ticket that the ticket word of the lane `i` has, the rule still holds
   drawn : (n : ℕ) → IsAway i v → n ≤ get_or s.words (ticket_word i) 0
       → (let t : ℕ = get_or s.words (ticket_word i) 0 in
       WorldRule first record {

@@ -29,7 +29,7 @@ use Rattle.lane_table.proofs.Rule.World as world
 
 module _ {first : ℕ} {s : St} {id : ℕ} {v : View} (h : Here first s id v) (share : v.share ≡ 2 ^ v.halvings)
     (idle : IsIdle v) where
-  -- every other view is blank at each lane
+  -- the view of every other pass knows nothing about any lane (`blank`)
   others : (i j : ℕ) (u : View) → j ≢ id → get_elem? s.views j ≡ some u → at i u ≡ blank
   others i j u ne e = let top : ℕ = h.rule.top in let below = (h.rule.views id v h.is).below in
       let mine : weight top v ≡ 2 ^ top = (let e : v.halvings + (top - v.halvings) ≡ top = omega arith in
@@ -44,7 +44,7 @@ module _ {first : ℕ} {s : St} {id : ℕ} {v : View} (h : Here first s id v) (s
       (pow_pos (top - u.halvings)) in absurd (omega (arith, none'))) in
       ap (λ (l : List LaneView). get_or l i blank) ((h.rule.views j u e).spent zero')
 
-  -- all passes are away from each lane
+  -- no pass waits for a lane or holds one
   all_away : (i j : ℕ) (u : View) → get_elem? s.views j ≡ some u → (at i u).stage ≡ Away
   all_away i j u e = dite (ℕ_discrete j id) (λ hit. ap (λ (z : View). (at i z).stage)
       (some-injective u v (sym e ∙ ap (λ (k : ℕ). get_elem? s.views k) hit ∙ h.is)) ∙ idle i)
@@ -56,7 +56,7 @@ module _ {first : ℕ} {s : St} {id : ℕ} {v : View} (h : Here first s id v) (s
         (λ j u ne e. ap (λ (a : LaneView). a.made) (others i j u ne e)))
         ∙ sym (sum_by-map (λ (a : LaneView). a.made) (at i) s.views) ∙ (h.rule.lane i near).made
 
-    -- the pass drew all tickets, and none is in use
+    -- the pass drew all tickets of the lane `i`, and none of them is in use
     pub numbers : (get_or s.words (ticket_word i) 0 ≡ first + (at i v).tickets)
         × (get_or s.words (serving_word i) 0 ≡ first + (at i v).tickets)
     numbers = let ok = h.rule.lane i near in
@@ -96,7 +96,7 @@ module _ {first : ℕ} {s : St} {id : ℕ} {v : View} (h : Here first s id v) (s
         ∙ sym (sum_by-map (λ (a : LaneView). times p a.places) (at i) s.views) ∙ (h.rule.lane i near).placed p
         ∙ ap (λ (l : List Visit). once_below p (length l)) (sym knows_all)
 
-  -- each reference ahead is answered
+  -- if an entry of the parent lane names a place of the lane `l`, the visit at that place answers the entry
   answered : (l : ℕ) → 1 ≤ l → l < length s.homes → Answered l (known_of v (parent l)) (known_of v l)
   answered l lo hi p b x e n = let low = parent_within l (length s.homes) h.rule.two in let k =
       knows_all (parent l) low in let k' = knows_all l hi in
@@ -120,7 +120,7 @@ module _ {first : ℕ} {s : St} {id : ℕ} {v : View} (h : Here first s id v) (s
         placed = λ i p near. placed_all i near p;
       }
 
--- a new table's pass has a blank part for each lane
+-- the view of a new table's pass has a blank part for each lane
 blank_in : (n i : ℕ) → get_or (replicate n blank) i blank ≡ blank
 blank_in zero i = refl
 blank_in (suc n) zero = refl

@@ -24,7 +24,8 @@ use Rattle.lane_table.proofs.Rule.World.{Here, pick, pick_here, pick_else}
 use Rattle.lane_table.proofs.Rule.World as world
 use Rattle.lane_table.proofs.Rule.Plain as plain
 
--- the visit is of the lane, receives the key that it names, and fits the model before it
+-- the visit `x` may be made in the lane `i`: its entry is one of this lane, it receives the key that the entry names,
+-- and it fits the lane's model (the value in the proofs)
 pub record Enters (i : ℕ) (x : Visit) (v : View) : Type 0 where
   pub kind : IsOf i x.entry
   pub got_is : x.got ≡ handed i x.entry v
@@ -50,7 +51,7 @@ module _ {first : ℕ} {s : St} {id : ℕ} {v : View} (h : Here first s id v) (i
     abbrev pub mine : LaneView
     mine = visited x (at i v)
 
-    -- the view with the visit, before the pass owes an answer at the lane that takes the key
+    -- the view with the visit `x`, without the answer that the pass may now owe at the lane that takes the visit's key
     abbrev pub own : View
     own = with_at i mine (with_stamp x.stamp v)
 
@@ -83,7 +84,7 @@ module _ {first : ℕ} {s : St} {id : ℕ} {v : View} (h : Here first s id v) (i
         (NamesWithin (length s.homes)) (sym a.2) (let n = a.3.near in let f = (world.sized h).0 in omega arith))
         enters.names.ahead
 
-    -- the entry receives the key of the visit that it names
+    -- the entry of `x` receives the key of the visit that it names
     handed_is : (l : ℕ) → l ≡ i → (p : ℕ) → after_of x.entry ≡ Some p → (y : Visit) →
         get_elem? (known_of v (parent l)) p ≡ some y → x.got ≡ y.gave
     handed_is l e p n y has = enters.got_is ∙ ap (λ (q : Option ℕ). got_of q (known_of v (parent i))) n
@@ -127,7 +128,7 @@ module _ {first : ℕ} {s : St} {id : ℕ} {v : View} (h : Here first s id v) (i
         (known_of own (parent l)) ((h.rule.views id v h.is).owed l hi) (ap (λ (z : LaneView). z.stage) a)
         (ap (λ (z : LaneView). z.owes) a) (λ _ _. ap (λ (z : LaneView). z.known) a) (own_grows (parent l)))
 
-    -- if some view owes an answer at this lane, it is this view, and the entry is that answer
+    -- if some view owes an answer at the lane `i`, it is the view `v`, and the entry of `x` is that answer
     answers : (p : ℕ) → Owes i p s.views → after_of x.entry ≡ Some p
     answers p q = let o = (h.rule.views q.0 q.1 q.2).owed i near p q.3 in
         let there = lane.holds_turn (h.rule.lane i near) q.0 (at_map (at i) s.views q.0 q.1 q.2) o.0.0 o.0.1 in
@@ -139,7 +140,7 @@ module _ {first : ℕ} {s : St} {id : ℕ} {v : View} (h : Here first s id v) (i
     log_here j e = ap (pick i log' h.rule.logs) e ∙ pick_here i log' h.rule.logs
         ∙ ap (λ (l : List Visit). l ++ x ∷ []) whole ∙ ap (λ (k : ℕ). h.rule.logs k ++ x ∷ []) (sym e)
 
-    -- references to a lane that the entry does not name are answered or owed as before
+    -- if the entry of `x` names no place of the lane `l`, the references to `l` are answered or owed as before
     pub pending_at : (w : View) (l : ℕ) → 1 ≤ l → l < length s.homes → (l ≢ i → (at l w).owes ≡ (at l v).owes) →
         (parent l ≡ i → (b : ℕ) → ¬ (ahead_of x.entry ≡ Some (l, b)))
         → Pending l (pick i log' h.rule.logs (parent l)) (pick i log' h.rule.logs l) (set s.views id w)
@@ -157,7 +158,7 @@ module _ {first : ℕ} {s : St} {id : ℕ} {v : View} (h : Here first s id v) (i
         (pending_after l (logs (parent l)) (logs l) views' x base (other e)))
         (λ ne'. subst P (λ q. (sym (pick_else i (parent l) log' logs ne') q, sym (pick_else i l log' logs ne) q)) base))
 
-    -- the visit raises the generation as much as this hold did
+    -- the visit `x` raises the generation as much as the pass did while it held the lane
     pub raised_count : raises (h.rule.logs 1) + (at 1 v).raised ≡ raises (pick i log' h.rule.logs 1) + (at 1 own).raised
     raised_count = dite (ℕ_discrete 1 i)
         (λ e. let a = ap raises (log_here 1 e) in let p = sum_by_push (λ (z : Visit). raise_of z.entry) (h.rule.logs 1)

@@ -20,7 +20,7 @@ use Rattle.lane_table.proofs.Rule.Plain.{Plain}
 use Rattle.lane_table.proofs.Rule.Plain as plain
 use Rattle.lane_table.proofs.Rule.Giving as giving
 
--- word 0 belongs to no lane
+-- word 0, the generation, belongs to no lane
 not_lane : {first : ℕ} {s : St} {id : ℕ} {v : View} (h : Here first s id v) (y : ℕ) →
     get_or s.words 0 0 ≤ get_or (set s.words 0 y) 0 0 → get_or (set s.words 0 y) 0 0 < 2 ^ 63 → WordStep h 1 0 y
 not_lane h y rises small = record {

@@ -16,7 +16,7 @@ use Rattle.lane_table.specs.Steps.{longer}
 use Rattle.lane_table.proofs.Lists.Lists.{at_push, bool_cases}
 use Rattle.lane_table.proofs.Lists.VisitLists.{at_begun, at_begun_back, begins_length, longer_left, longer_right, longer_is}
 
--- the parent lane has a lower number
+-- the parent lane of the lane `l` has a lower number than `l`
 pub parent_below : (l : ℕ) → 1 ≤ l → parent l < l
 parent_below l h = bool_cases (eqb l 1) (λ b. cond b 0 1 < l) (λ e. omega arith)
     (λ e. let ne : l ≢ 1 = λ q. (let g : true ≡ false = sym (eq-eqb l 1 q) ∙ e in cc g) in omega arith)
@@ -70,7 +70,7 @@ module _ (l : ℕ) where
     subst (λ (q : List Visit). (replay q).least ≤ p) (sym (same o.0.0 o.0.1)) o.2,
   )
 
-  -- a pass that does not hold the lane owes no answer there
+  -- a pass that does not hold the lane `l` owes no answer at that lane
   pub owed_out : (a b : LaneView) (following following' : List Visit) → OwedAt l a following →
       ((t : ℕ) → ¬ (a.stage ≡ Holding t)) → b.owes ≡ a.owes → OwedAt l b following'
   owed_out a b following following' h out owes p e = let o = h p (sym owes ∙ e) in absurd (out o.0.0 o.0.1)
@@ -100,7 +100,7 @@ module _ (l : ℕ) where
       (t.0, at_longer here (x ∷ []) b t.0 t.1, t.2))
       (λ (t : (b ≡ length here) × Owes l p views). inl (x, at_last here x b (sym t.0), k p t.1)) (h p b y e n)
 
-  -- a pending reference is half answered in the lists that a view knows
+  -- a reference that is answered or owed (`Pending`) is half answered in the lists that a view knows
   pub half_known : (following here xs ys : List Visit) (views : List View) → Pending l following here views →
       Begins xs following → Begins ys here → HalfAnswered l xs ys
   half_known following here xs ys views h f g p b x e n = ⊎_elim

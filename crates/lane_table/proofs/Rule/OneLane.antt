@@ -16,7 +16,8 @@ use Rattle.lane_table.specs.Steps.{finding, waiting, holder, recorded, merged, l
 use Rattle.lane_table.proofs.Lists.Lists.{at_below, sum_at_set}
 use Rattle.lane_table.proofs.Lists.VisitLists.{begins_trans, begins_length, begins_nil, begins_refl, longer_all, all_trans, all_heard}
 
--- if one part of a column changes, a property that holds for the new part and all others holds for each part
+-- a column has the part of one lane in each view. If one part changes, a property that holds for the new part and all
+-- others holds for each part
 passes_set : (P : ℕ → LaneView → Type 0) (col : List LaneView) (id : ℕ) (a' : LaneView) →
     ((j : ℕ) (a : LaneView) → j ≢ id → get_elem? col j ≡ some a → P j a) → P id a'
     → (j : ℕ) (a : LaneView) → get_elem? (set col id a') j ≡ some a → P j a
@@ -60,7 +61,7 @@ module _ {lane first ticket serving : ℕ} {home : Home} {col : List LaneView} {
     known_conforms known (Queued t) h k = k
     known_conforms known (Holding t) h k = (k.0, k.1, k.2, h k.3, k.4)
 
-    -- if a view in the same stage learns more of the list or of the words, the lane's rule still holds
+    -- if a view stays in its stage and learns more of the list or of the words, the lane's rule still holds
     pub recast : (b : LaneView) → b.stage ≡ a.stage → b.made ≡ a.made → b.places ≡ a.places → b.tickets ≡ a.tickets →
         b.loaded ≤ serving → b.found ≤ ticket → b.heard ≡ a.heard → Begins b.known log → (a.known ≡ log → b.known ≡ log)
         → LaneOk lane first ticket serving home (set col id b) log owner
@@ -242,7 +243,7 @@ module _ {lane first ticket serving : ℕ} {home : Home} {col : List LaneView} {
           rising = rises;
         }
 
-    -- if a view with the same knowledge of the lane is added, the lane's rule still holds
+    -- if the view of a new pass, with the same knowledge of the lane, is added, the lane's rule still holds
     pub enters : LaneOk lane first ticket serving home (col ++ recorded a ∷ []) log owner
     enters = record {
       ordered = ok.ordered;

@@ -46,7 +46,7 @@ set_self [] i d = refl
 set_self (x ∷ xs) zero d = refl
 set_self (x ∷ xs) (suc i) d = ap (λ (l : List _). x ∷ l) (set_self xs i d)
 
--- setting a view's part of a lane to that part changes nothing
+-- if a view's part of a lane is set to itself, nothing changes
 pub set_at : (i : ℕ) (v : View) → set v.lanes i (at i v) ≡ v.lanes
 set_at i v = set_self v.lanes i blank
 
@@ -57,7 +57,7 @@ module _ {first : ℕ} {s : St} {id : ℕ} {v : View} (h : Here first s id v) (i
   pub at_there : (a : LaneView) (j : ℕ) → j ≢ i → at j (with_at i a v) ≡ at j v
   at_there a j ne = get_or-set_other v.lanes i j a blank ne
 
-  -- a pass that does not hold the lane owes no answer there
+  -- a pass that does not hold the lane `i` owes no answer at that lane
   pub owes_nothing : ((t : ℕ) → ¬ ((at i v).stage ≡ Holding t)) → OwesNothing i v
   owes_nothing away = (
     none_if (at i v).owes (λ p e. let o = (h.rule.views id v h.is).owed i near p e in away o.0.0 o.0.1),

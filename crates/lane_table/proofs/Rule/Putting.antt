@@ -1,4 +1,4 @@
--- The stores of a serving word, which put the value back with a visit or without, keep the rule.
+-- The stores of a serving word, which put a lane's value back with a visit or without, keep the rule.
 use Rattle.std.proofs.Common.{◌≤◌, ◌≡◌, ℕ, ◌+◌, ◌<◌, ◌≢◌, List, [], ◌∷◌, ◌++◌, length, get_or, set, sym, refl, ap, ◌∙◌, subst, inl, inr, ⊎_elim, arith, Option, Some, None, length-append}
 use Rattle.std.specs.Prelude.{All}
 use Rattle.std.proofs.lemmas.List.{get_or-set_other, get_or-set_same, length-set}
@@ -48,7 +48,8 @@ module _ {first : ℕ} {s : St} {id : ℕ} {v : View} (h : Here first s id v) (i
   abbrev homes' : Content → List (maybe.Option (Option Content))
   homes' c = set s.homes i (some (Some c))
 
-  -- the lane's rule for the words and the slot as they are after the value went back
+  -- if the lane's rule holds for the serving number `t + 1` and a slot with `c`, it holds for the words and the slot
+  -- after `c` went back
   home_lane : (c : Content) (log' : List Visit) (a' : LaneView) →
       LaneOk i first (get_or s.words (ticket_word i) 0) (t + 1) (some (some (Some c))) (set (column i s.views) id a')
       log' (h.rule.owners i)
@@ -279,7 +280,7 @@ module _ {first : ℕ} {s : St} {id : ℕ} {v : View} (h : Here first s id v) (i
           (ap (λ (z : LaneView). z.owes) a) (λ _ _. ap (λ (z : LaneView). z.known) a)
           (subst (Begins (known_of own (parent l))) (sym (known_w (parent l))) (begins_refl (known_of own (parent l)))))
 
-      -- the new reference is pending
+      -- the reference from the visit's entry to the lane `d` is pending: it is answered or owed
       pending_d : Pending d (logs' (parent d)) (logs' d) (set s.views id w)
       pending_d = let logs = h.rule.logs in let views' = set s.views id w in
           let kept : (p : ℕ) → Owes d p s.views → Owes d p views' = λ p q. dite (ℕ_discrete q.0 id)

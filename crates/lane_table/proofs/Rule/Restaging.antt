@@ -71,7 +71,7 @@ module _ {i : ℕ} {m m' : Seated} (r : Restages i m m') (near : i < length m.0.
   pub to_same : SameView m.0 m'.0
   to_same = record { first = r.first; share = r.share; halvings = r.halvings; sized = to_long }
 
-  -- the pass still belongs to the table
+  -- if the step from `m` to `m'` restages a lane, the pass still belongs to the table
   pub to_pass : (t : Lanes) (p q : Pass) → IsPassOf t p → p.seat.me ≡ m → q.seat.me ≡ m' →
       q.seat.table_id ≡ p.seat.table_id → q.stamp ≡ p.stamp → q.caller ≡ p.caller → IsSamePass t p q
   to_pass t p q h is is' table stamp caller = let v₀ : view p ≡ m.0 = ap (λ (z : Seated). z.0) is in
@@ -87,7 +87,7 @@ module _ {i : ℕ} {m m' : Seated} (r : Restages i m m') (near : i < length m.0.
         caller = caller;
       }
 
-  -- if the stage and the number of drawn tickets are unchanged, the pass did not get the lane
+  -- if the stage at the lane and the number of drawn tickets are unchanged, the pass did not get the lane (`Tried`)
   pub to_tried : (at i m'.0).stage ≡ (at i m.0).stage → m'.0.drawn ≡ m.0.drawn → Tried i m m'
   to_tried stage drawn = record {
     consistent = consistent_same m.0 m'.0 to_long to_known;

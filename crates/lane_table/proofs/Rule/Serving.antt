@@ -109,7 +109,7 @@ module _ {first : ℕ} {s : St} {id : ℕ} {v : View} (h : Here first s id v) (i
   got_free : OwesNothing i v
   got_free = plain.owes_nothing h i near waits_only
 
-  -- the pass already knows the whole list of each lane that it holds
+  -- the pass already knows the whole list of each other lane that it holds
   got_whole : (j u : ℕ) → j < length s.homes → j ≢ i → (at j v).stage ≡ Holding u → known_of got_view j ≡ known_of v j
   got_whole j u below ne hold = let whole = (lane.holds_turn (h.rule.lane j below) id (world.here h j) u hold).3 in
       (got_recasts j below ne).whole whole ∙ sym whole
@@ -151,8 +151,8 @@ module _ {first : ℕ} {s : St} {id : ℕ} {v : View} (h : Here first s id v) (i
   waits_conforms = subst (Conforms (get_or s.words (ticket_word i) 0) (get_or s.words (serving_word i) 0) (h.rule.owners i)
       (get_elem? s.homes i) log id (known_of v i)) waits ((h.rule.lane i near).passes id (at i v) (world.here h i)).conforms
 
-  -- if the base serves this ticket, `raised` is 0 in every view. So the generation that `v` has seen is at most the
-  -- number of raises in the base's list
+  -- if the lane is the base and serves the ticket `t`, `raised` is 0 in every view. So the generation that `v` has seen
+  -- is at most the number of raises in the base's list
   got_seen : t ≡ get_or s.words (serving_word i) 0 → i ≡ 1 → v.seen ≤ raises log
   got_seen now one = let none = plain.none_raised h i near t one
       (now ∙ ap (λ (k : ℕ). get_or s.words (serving_word k) 0) one)

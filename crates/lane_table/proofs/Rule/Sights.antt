@@ -26,7 +26,7 @@ use Rattle.lane_table.proofs.Lists.LawfulLists.{base_generation, cpu_below}
 use Rattle.lane_table.proofs.Lists.Lists.{at_below}
 use Rattle.lane_table.proofs.Rule.Naming.{parent_cpu}
 
--- Each lane's generation is one that the base has had
+-- The generation of each lane's value is one that the base has had
 
 kept : {A : Type 0} (f : Model → A) (n i : ℕ) →
     ((s : Model) (e : LaneEntry) (got : Handed) → IsOf i e → f (made_of s e got) ≡ f s) →
@@ -81,7 +81,7 @@ module _ (v : View) (two : 1 < length v.lanes) (c : Consistent v) (lane : ℕ) (
   pub lane_known : generation_of (replay (known_of v lane)) ≤ floor v
   lane_known = let a = cpu_known in let b = base_known in omega arith
 
--- One call of the table
+-- The generation that a pass has seen, before and after one call of the table
 
 module _ (m m' : Seated) (two : 1 < length m.0.lanes) where
   pub sees_looked : (g : ℕ) → Looked g m m' → Sees m'.0 (floor m.0) (looked g ∷ []) (floor m'.0)
@@ -103,7 +103,7 @@ module _ (m m' : Seated) (two : 1 < length m.0.lanes) where
         le_refl (floor m'.0),
       )
 
--- Successive calls
+-- The generation that a pass has seen, over successive calls
 
 pub sees_up : (w : View) (low high : ℕ) (made_steps : List MadeStep) → Sees w low made_steps high → low ≤ high
 sees_up w low high [] s = s

@@ -54,7 +54,7 @@ module _ (first count : ℕ) (two : 2 ≤ count) where
   abbrev new : View
   new = first_view (plan_of count first)
 
-  -- each word except word 0 is `first`
+  -- each word of a new table is `first`, except word 0 (the generation)
   word_at : (k : ℕ) → k < words_of count → ¬ (k ≡ 0) → get_or words k 0 ≡ first
   word_at k low ne = get_or-set_other (replicate (words_of count) first) 0 k 0 0 ne
       ∙ get_or-replicate (words_of count) k first 0 low
@@ -79,7 +79,7 @@ module _ (first count : ℕ) (two : 2 ≤ count) where
     rising = tt;
   }
 
-  -- the new pass has the only view
+  -- the view of the new table's pass is the only view
   only : (P : View → Type 0) (j : ℕ) (u : View) → P new → get_elem? (new ∷ []) j ≡ some u → P u
   only P j u mine e = ⊎_elim (λ (h : get_elem? [] j ≡ some u). absurd (some-ne-none u (sym h)))
       (λ (h : new ≡ u). subst P h mine) (at_snoc [] new u j e)

@@ -47,7 +47,7 @@ module _ (i n k : ℕ) (m m₁ m₂ : Seated) (near : i < length m.0.lanes) (at�
   pub tried : Tried i m m₂
   tried = to_tried two near away_still still_drawn
 
-  -- the exchange found the ticket number `q`
+  -- the exchange of the ticket word found the number `q`
   module _ (q : ℕ) (m₃ : Seated) where
     module _ (at₃ : m₃ ≡ found i q m₂) where
       missed : at i m₃.0 ≡ record (at i m.0) { loaded = n; found = q }

@@ -66,7 +66,7 @@ same_at log a b e h = record {
   whole = λ w. ap (λ (x : LaneView). x.known) e ∙ w;
 }
 
--- the rule holds, and seat number `id` has the view `v`
+-- the rule of the table holds, and pass number `id` has the view `v`
 pub record Here (first : ℕ) (s : St) (id : ℕ) (v : View) : Type 0 where
   pub rule : WorldRule first s
   pub is : get_elem? s.views id ≡ some v
@@ -98,7 +98,7 @@ module _ {first : ℕ} {s : St} {id : ℕ} {v : View} (h : Here first s id v) wh
   pub begun : (j : ℕ) → j < count → Begins (known_of v j) (logs j)
   begun j below = ((h.rule.lane j below).passes id (at j v) (here j)).begins
 
-  -- the rule holds after a step that leaves words, homes and the view as they are
+  -- the rule holds after a step that leaves the words, the slots (`homes`) and the view as they are
   pub stays : (k : ℕ) → WorldRule first record {
     words = set s.words k (get_or s.words k 0);
     homes = s.homes;
@@ -148,7 +148,7 @@ module _ {first : ℕ} {s : St} {id : ℕ} {v : View} (h : Here first s id v) wh
     pub rises : get_or s.words 0 0 ≤ get_or (set s.words k y) 0 0
     pub small : get_or (set s.words k y) 0 0 < 2 ^ 63
 
-  -- a store in another word does not change the generation
+  -- a store in a word other than word 0 does not change the generation
   pub unraised : (k y : ℕ) → ¬ (0 ≡ k) → get_or (set s.words k y) 0 0 ≡ get_or s.words 0 0
   unraised k y ne = get_or-set_other s.words k 0 y 0 ne
 
@@ -164,7 +164,7 @@ module _ {first : ℕ} {s : St} {id : ℕ} {v : View} (h : Here first s id v) wh
   serving_step i y = lane_step i (serving_word i) y (λ j ne. ((λ e. omega arith), (λ e. ne (omega arith))))
       (λ e. omega arith)
 
-  -- the state after a step on the lane `i`
+  -- the state after a step on the lane `i`, which stores `y` in word `k` and changes the view to `w`
   pub record Moved (i y k : ℕ) (w : View) (a' : LaneView) (homes' : List (maybe.Option (Option Content)))
       (log' : List Visit) (owner' : ℕ → ℕ) (lists' : ℕ → List Visit) : Type 0 where
     pub word : WordStep i k y
@@ -202,7 +202,8 @@ module _ {first : ℕ} {s : St} {id : ℕ} {v : View} (h : Here first s id v) wh
         closed = c.closed;
       }
 
-  -- if a step does not change the lists, each value carries its lists as before
+  -- if a step does not change the lists of visits, each lane's value carries the same lists from holder to holder as
+  -- before
   pub carries_same : (i : ℕ) → i < count → Carries count (pick i (logs i) logs) i (h.rule.carried i)
   carries_same i near = let c = h.rule.carries i near in record {
     begins = λ m low. subst (Begins (h.rule.carried i m)) (sym (pick_same i m logs)) (c.begins m low);

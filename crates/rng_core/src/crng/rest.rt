@@ -78,7 +78,7 @@ fn front_of_base(base: &mut Base, buf: &mut [u8], taken: Taken) -> Rest
     Rest { made, key }
 }
 
-/// Reads from the CPU's key.
+/// Begins a read from the CPU: erases its key, and makes at most 32 bytes with the key.
 pub(crate) fn read(state: &mut LaneState, buf: &mut [u8], taken: Taken) -> Rest
     requires conforms { IsCpuValue state.old }
     requires asks { Asks taken buf.old }
@@ -91,7 +91,7 @@ pub(crate) fn read(state: &mut LaneState, buf: &mut [u8], taken: Taken) -> Rest
     with_cpu!(state, lane => front_of_cpu(&mut lane.cpu, buf, taken))
 }
 
-/// Reads from the key that the base hands over.
+/// Begins a read from the CPU with the key that the base hands over, as `read` does with the CPU's own key.
 pub(crate) fn read_refilled(
     state: &mut LaneState,
     key: [u8; 32],
@@ -113,7 +113,7 @@ pub(crate) fn read_refilled(
     })
 }
 
-/// Reads from the base's key.
+/// Begins a read from the base: erases its key, and makes at most 32 bytes with the key.
 pub(crate) fn draw(state: &mut LaneState, buf: &mut [u8], taken: Taken) -> Rest
     requires conforms { (s : Model) × ValueRepresents 1 state.old s }
     requires asks { Asks taken buf.old }
@@ -126,7 +126,7 @@ pub(crate) fn draw(state: &mut LaneState, buf: &mut [u8], taken: Taken) -> Rest
     with_base!(state, lane => front_of_base(&mut lane.base, buf, taken))
 }
 
-/// Reads from the base with a root that serves this read alone.
+/// Begins a read from the base with a root that serves this read alone.
 pub(crate) fn draw_rooted(
     state: &mut LaneState,
     root: [u8; 32],

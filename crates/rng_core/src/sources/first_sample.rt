@@ -23,8 +23,8 @@ const SAMPLE: [u8; 32] = [
 
 const SAMPLE_BITS: u32 = 256;
 
-/// Adds the bytes 0 to 31 and credits 256 bits for them, which makes a new core ready. The steps' trace is dropped.
-/// The pass must hold no lane, and holds none afterwards; `set.now` must be below 2^40.
+/// Adds the bytes 0 to 31 and credits 256 bits for them, which makes a new core ready. The call's trace is not
+/// returned. The pass must hold no lane, and holds none afterwards; `set.now` must be below 2^40.
 pub fn add_first_sample<R: Wait>(rt: &R, lanes: &Lanes, pass: &mut Pass, set: Setting)
     requires has { HoldsLanes lanes.now set.caller [] pass.old }
     requires moment { set.now < 2 ^ 40 }

@@ -66,7 +66,7 @@ pub fn input<R: Wait>(rt: &R, site: &mut Site, word: u64, kind: u16, code: u16, 
     cross(rt, site, crossing);
 }
 
-/// Reads the bits credited to the pool (`RNDGETENTCNT`).
+/// Returns the number of bits credited to the pool (`RNDGETENTCNT`).
 pub fn bits<R: Wait>(rt: &R, site: &mut Site) -> u32
     requires idle { IsIdle 1 site.old }
     ensures { Completes 1 BitsEvent Done (count result) site.old site.new }

@@ -24,7 +24,7 @@ pub struct Bound {
     pub act: InsideAct,
     /// The number of the act's event among the caller's events.
     pub event: u32,
-    /// Whether the call reached the point.
+    /// Whether the act ran: the call's first attempt reached the act's point.
     pub done: bool,
     /// The act's answer, once it is done.
     pub answer: Result<(), Errno>,
@@ -33,7 +33,7 @@ pub struct Bound {
 }
 
 impl Bound {
-    /// An act that is not done yet.
+    /// Makes a record of an act that is not done yet.
     pub fn of(point: Point, act: InsideAct, event: u32) -> Bound
         ensures { result
             ≡ record { point = point; act = act; event = event; done = false; answer = Ok tt; trace = [] } }
@@ -86,7 +86,7 @@ fn do_act<R: Wait>(rt: &R, site: &mut Site, act: InsideAct, out: &mut [u8]) -> R
     }
 }
 
-// Runs an act in its own event, with its steps in its own trace.
+// Runs an act as its own event, and records its steps in the act's own trace.
 fn run<R: Wait>(rt: &R, site: &mut Site, bound: &mut Bound, out: &mut [u8])
     requires idle { IsIdle 0 site.old }
     requires cpu { IsOnCpu site.old }

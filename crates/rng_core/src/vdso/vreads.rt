@@ -37,7 +37,7 @@ pub fn vread_local(site: &mut Site, st: &mut VState, buf: &mut [u8], flags: u32)
     }
 }
 
-// The result of a call, without the way it ended.
+// The result of a vgetrandom call: success or an error, without how the call ended.
 fn done(ended: Result<VEnd, Errno>) -> Result<(), Errno>
     ensures { result ≡ done_of ended }
 {

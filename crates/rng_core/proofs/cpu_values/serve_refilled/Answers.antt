@@ -4,7 +4,7 @@ use Rattle.lane_table.specs.Meaning.{CpuModel, ValueRepresents, generator_of}
 use Rattle.rng_core.proofs.IntFulfilling.{generator_is}
 use Rattle.rng_core.proofs.cpu_values.serve_refilled.Goals as goal
 
--- `m` is the CPU's model, with the generator that the base handed over
+-- `m` is the CPU's model (its value in the proofs), with the key and the generation that the base handed over
 pub returns-clause-made : goal.returns-clause-made
 returns-clause-made c = λ lane s got place two ek eg must h. let k =
     subst (λ (z : LaneState). ValueRepresents lane z s) c.in-Cpu.is h in let m : CpuModel =

@@ -26,7 +26,7 @@ found_none zero b e = refl
 found_none (suc g) b e = let f : false ≡ true =
     ap (λ (x : Bool). x && b) (sym (ne_eqb (suc g) 0 (λ z. omega arith))) ∙ e in absurd (cc f)
 
--- The effect
+-- The clauses `does`: the effects of getrandom on each path
 
 pub returns-then-are_bad-clause-does : goal.returns-then-are_bad-clause-does
 returns-then-are_bad-clause-does g c = does_nothing _ _ c.requires.idle
@@ -109,7 +109,7 @@ returns-clause-does g c = let good = sym c.are_bad.ensures ∙ c.if-are_bad.fals
     (does_found (λ set. Serving (ReadForm (setting_of set) (User n) found) c.read_after.new.buf) 3 found _ _ _
     c.look-found.ensures.looked c.read_after.ensures))
 
--- The first step, and the steps left to wait
+-- The clauses about the call's first step, and about the number of steps that a wait may still take
 
 begun : (before : List Step) (look : ℕ) (one : List Step) → one ≡ before ++ Look look ∷ [] → BeginsWithLook before one
 begun before look one is = record { look = look; rest = []; is = is }

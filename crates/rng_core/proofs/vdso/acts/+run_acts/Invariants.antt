@@ -1,4 +1,4 @@
--- The loop ends, since the list gets shorter.
+-- The recursion ends, since the list of acts that are left gets shorter.
 use Rattle.std.proofs.Common.{length}
 use Rattle.rng_core.proofs.vdso.acts.+run_acts.Given as goal
 
