@@ -28,7 +28,7 @@ use Rattle.draw_below.specs.Draws.{Takes}
 use Rattle.draw_below.specs.LaneWords.{ReadsWord}
 use Rattle.draw_below.specs.TableDraws.{AreTableWords, AreWordCalls, marks_of}
 
--- from `v` to `w` these words were read, each by its own call
+-- from `v` to `w` the words `words` were read, each by its own call
 record Reads (v w : View) (words : List ℕ) : Type 0 where
   calls : List (List Step)
   path : Path v w (marks_of calls)

@@ -1,4 +1,4 @@
-//! Passes that meet at lanes.
+//! Passes of two callers that visit the same lanes.
 ghost use Rattle.std.specs.Prelude.{◌≡◌, ℕ, ◌<◌, ◌≤◌, ◌^◌, []};
 ghost use Rattle.key_names.specs.declared.entries.CpuEntry.TheVariants.{Irq};
 ghost use Rattle.lane_table.specs.declared.view.Handed.{Handed};
@@ -143,7 +143,7 @@ fn irqs<R: Wait>(rt: &R, lanes: &Lanes, mut pass: Pass, caller: u32, times: u32)
     pass
 }
 
-// The marks of a reseed, and the looks of another pass before and after the raise.
+// The marks of a reseed, and the looks of another pass before and after the reseed raises the generation.
 #[derive(Drop)]
 struct Reseeded {
     extracted: Mark,

@@ -42,7 +42,7 @@ lines_with lines (left_out n) = take n lines ++ drop (suc n) lines
 lines_with lines (instead n line clause) = slice_set lines n line
 lines_with lines (instead_both n line m other clause) = slice_set (slice_set lines n line) m other
 
--- the text of a script, near misses, and the lines of the script's transcript without the first and the last line
+-- a worked case: the text of a script, the lines of its transcript without the first and the last line, and near misses
 pub record Case : Type 0 where
   pub script : List ℕ
   pub lines : List (List ℕ)
@@ -51,15 +51,14 @@ pub record Case : Type 0 where
 abbrev pub transcript_with : List (List ℕ) → List ℕ
 transcript_with lines = lined (codes "rngtranscript 1" ∷ lines ++ codes "end" ∷ [])
 
--- the transcript is lawful, and for each near miss the clause given with it is the first that fails
+-- the transcript of `case` is lawful, and for each near miss the clause given with it is the first that fails
 pub record Holds (case : Case) : Type 0 where
   pub lawful : IsLawfulRun case.script (transcript_with case.lines)
   pub near_misses : AllByRecursion
       (λ miss. FailsFirst (clause_missed miss) case.script (transcript_with (lines_with case.lines miss)))
       case.near_misses
 
--- the text of a script of this version and with this number of CPUs; the lines are those between `caller 0` and the
--- last line
+-- the text of a script with the given version and number of CPUs; `lines` are the lines between `caller 0` and `end`
 abbrev pub script_with : List ℕ → List ℕ → List (List ℕ) → List ℕ
 script_with version cpus lines = lined (
     (codes "rngscript " ++ version) ∷ (codes "cpus " ++ cpus) ∷ codes "caller 0" ∷ lines ++ codes "end" ∷ [])

@@ -28,7 +28,7 @@ pub fn late_interval()
     ensures { Holds late_interval }
 {}
 
-/// Integers before readiness, after it, and after a reseed.
+/// Integers that are read before the core is ready, when it is ready, and after a reseed.
 #[tactic(auto, using(crate::proofs::GeneratorLanes::int16_across_readiness_and_reseed_holds))]
 pub fn int16_across_readiness_and_reseed()
     ensures { Holds int16_across_readiness_and_reseed }
@@ -46,7 +46,7 @@ pub fn vmfork_before_and_after_readiness()
     ensures { Holds vmfork_before_and_after_readiness }
 {}
 
-/// A batch of 96 bytes is used up, and the next batch begins.
+/// A CPU's batch of 96 bytes is used up, and the next batch begins.
 #[tactic(auto, using(crate::proofs::GeneratorLanes::int8_batch_of_96_holds))]
 pub fn int8_batch_of_96()
     ensures { Holds int8_batch_of_96 }

@@ -5,7 +5,7 @@ ghost use Rattle.worked_cases.specs.Readiness.{empty_base_extracts_each_time, re
 ghost use Rattle.worked_cases.specs.Readiness.{early_then_ready, early_step_skipped, early_base_no_second_extraction};
 ghost use Rattle.worked_cases.specs.Readiness.{random_file_not_ready, kernel_and_file_reads};
 
-/// A write, and a read that is served from a root extracted for this read alone.
+/// A write, and a read that is served from a root (a base key from an extraction) made for this read alone.
 #[tactic(auto, using(crate::proofs::ReadinessLanes::first_run_holds))]
 pub fn first_run()
     ensures { Holds first_run }
@@ -35,7 +35,7 @@ pub fn read_of_33_before_readiness()
     ensures { Holds read_of_33_before_readiness }
 {}
 
-/// The bits cross 128 and then 256.
+/// The pool's bits cross 128 and then 256.
 #[tactic(auto, using(crate::proofs::ReadinessLanes::early_then_ready_holds))]
 pub fn early_then_ready()
     ensures { Holds early_then_ready }

@@ -21,7 +21,7 @@ pub fn unanswered_extraction()
     ensures { ¬ HalfFinishedLanes unanswered }
 {}
 
-/// Served bytes do not stay in a batch.
+/// A book is not erased if bytes that a batch has served stay in the batch.
 #[tactic(auto, using(crate::proofs::BooksRefused::served_bytes_are_refused))]
 pub fn served_bytes_that_stay()
     ensures { ¬ IsErased two_integers (λ batch. replicate 96 1) }
