@@ -20,7 +20,7 @@ use std::thread::Threads;
 
 const NEVER: u64 = 1 << 62;
 
-// Ends a table whose pass was split once.
+// Joins the two halves of a pass that was split once, and ends the table.
 fn counted(lanes: Lanes, mut pass: Pass, other: Pass) -> u128
     requires pass { HoldsLanes lanes 0 [] pass × ((view pass).share ≡ 1) × ((view pass).halvings ≡ 1) }
     requires other { HoldsLanes lanes 1 [] other × ((view other).share ≡ 1) × ((view other).halvings ≡ 1) }

@@ -59,7 +59,7 @@ pub fn random_file_not_ready()
     ensures { Holds random_file_not_ready }
 {}
 
-/// A kernel read of 33 bytes, and reads of both files.
+/// A kernel read of 33 bytes, and reads of /dev/urandom and /dev/random.
 #[tactic(auto, using(crate::proofs::ReadinessLanes::kernel_and_file_reads_holds))]
 pub fn kernel_and_file_reads()
     ensures { Holds kernel_and_file_reads }
