@@ -28,7 +28,7 @@ fn digest(key: Option<&[u8; 32]>, text: &[u8], size: usize) -> [u8; 32] {
     state.finish()
 }
 
-/// `hash KEY TEXT SIZE`
+/// Answers the row `hash KEY TEXT SIZE`.
 pub fn hash_row(alloc: Global, key: &str, text: &str, size: &str) -> Result<String> {
     let text = bytes_of(alloc, text)?;
     let size = number_of(size)? as usize;
@@ -49,7 +49,7 @@ fn room(alloc: Global, len: &str) -> Result<Vec<u8>>
     Ok(vec![in alloc; 0; len as usize]?)
 }
 
-/// `stream KEY FROM LEN`
+/// Answers the row `stream KEY FROM LEN`.
 pub fn stream_row(alloc: Global, key: &str, from: &str, len: &str) -> Result<String> {
     let key = key_of(key)?;
     let from = number_of(from)?;
@@ -66,7 +66,7 @@ pub enum ReadBy {
     User,
 }
 
-/// `kernel KEY LEN` and `user KEY LEN`
+/// Answers the rows `kernel KEY LEN` and `user KEY LEN`.
 pub fn read_row(alloc: Global, reader: ReadBy, key: &str, len: &str) -> Result<String> {
     let mut key = key_of(key)?;
     let mut bytes = room(alloc, len)?;
