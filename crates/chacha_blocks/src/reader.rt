@@ -31,8 +31,7 @@ impl Model for KeystreamReader {
 
 impl KeystreamReader {
     /// A reader of the key's keystream from word number `word` on. Nothing is computed before the first read, unless
-    /// that
-    /// word is inside a block.
+    /// that word is inside a block.
     #[inline]
     pub(crate) fn at(key: &[u8; 32], word: u64) -> KeystreamReader
         ensures { result ≡ record { key = key.now; word = word } }

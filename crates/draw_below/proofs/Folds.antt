@@ -124,8 +124,7 @@ all_answered gives c w u m count answers all had = (
 )
 
 -- if `m` draws were answered and the next draw was spent (it rejected 128 words), `draws_in` computes `answers` and
--- then
--- `None` from all words taken
+-- then `None` from all words taken
 pub then_spent : {W : Type 0} (gives : W → ℕ → W → Type 0) (c : ℕ) (w u v : W) (m count : ℕ) (answers : List ℕ)
     (rejected : List ℕ) → m < count → IsAnswered gives c w u m answers → Spends gives c u rejected v →
     (taken : List ℕ) × Takes gives w taken v × (draws_in c count 0 taken ≡ Some (map Some answers ++ None ∷ []))

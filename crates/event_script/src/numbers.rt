@@ -25,8 +25,7 @@ fn ends_number(text: &[u8]) -> bool
 }
 
 /// The number at the start of a text, if it is at most `most`, and the text after it. The text begins with exactly
-/// `len`
-/// digits, which spell `value`.
+/// `len` digits, which spell `value`.
 #[inline(always)]
 fn cut_number(most: u64, value: u64, len: usize, text: &[u8]) -> Option<(u64, &[u8])>
     requires { IsDigits text.now value len }

@@ -67,8 +67,7 @@ IsRemade script text old new made answer =
     IsTrueOf script text (IsMade old new made) StepsFail (IsLonger old made) answer
 
 -- if the flag is true, the buffer, `old` before and `new` now, begins with `text`. If the flag is false, `text` is
--- longer
--- than the buffer, and the buffer is unchanged
+-- longer than the buffer, and the buffer is unchanged
 abbrev pub IsPut : Bool → List ℕ → List ℕ → List ℕ → Type 0
 IsPut true text old new = new ≡ text ++ drop (length text) old
 IsPut false text old new = (new ≡ old) × (length old < length text)

@@ -78,8 +78,7 @@ impl Model for MemSource {
 
 impl MemSource {
     /// A source from which all of `bytes` are left, and which gives at most `step` bytes a call. The calls whose
-    /// numbers are
-    /// in `fails` fail; the first call has number 1.
+    /// numbers are in `fails` fail; the first call has number 1.
     pub fn of(bytes: Vec<u8>, step: usize, fails: Vec<u64>) -> MemSource
         requires { 0 < step }
         ensures { result ≡ record { left = bytes.items; step = step; fails = fails.items; calls = 0; faults = 0 } }

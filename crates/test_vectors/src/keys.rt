@@ -7,7 +7,7 @@ use blake2s_core::{Blake2s, hash};
 use chacha_blocks::{erase_and_fill, fill, user_read};
 use std::alloc::Global;
 
-/// A row's bytes must end before this position of a stream.
+/// The first byte that a row asks for must be before this position of the key's stream.
 const STREAM_END: u64 = 1 << 39;
 
 /// The most bytes that a row may ask for.
@@ -79,7 +79,7 @@ pub fn read_row(alloc: Global, reader: ReadBy, key: &str, len: &str) -> Result<S
     Ok(format!(in alloc; "{key} {bytes}")?)
 }
 
-/// Bytes as a row shows them.
+/// Bytes as an answer shows them: in hexadecimal, or `-` if there are none.
 pub fn shown(alloc: Global, bytes: &[u8]) -> Result<String> {
     if bytes.is_empty() {
         return Ok("-".to_string(alloc)?);

@@ -46,8 +46,7 @@ takes_append taken (at_point point wiped ∷ xs) ys =
     takes_append (if is_same_point point Start then false else taken) xs ys
 
 -- the generation of the state `s` is below `low`, so that generation will not be published again; or a key was read,
--- and
--- the generation of `s` is at most `low`
+-- and the generation of `s` is at most `low`
 abbrev IsFresh : Bool → ℕ → VgetrandomState → Type 0
 IsFresh taken low s = (s.generation < low) ⊎ ((taken ≡ true) × (s.generation ≤ low))
 

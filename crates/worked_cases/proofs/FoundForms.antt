@@ -1,6 +1,5 @@
 -- Computes a proof that the effects of a line's steps are a form (an allowed pattern) of the line's event. The result
--- is
--- none if no form is found.
+-- is none if no form is found.
 use Rattle.std.proofs.Common.{◌≡◌, ℕ, Bool, true, false, Option, Some, None, List, [], ◌∷◌, refl, ◌==◌}
 use Rattle.std.specs.Prelude.{not, ◌&&◌}
 use Rattle.key_names.specs.declared.entries.Taken.{Taken}

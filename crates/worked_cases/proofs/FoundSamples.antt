@@ -1,6 +1,5 @@
--- Computes a proof that the samples of a book (its interrupts, input events and dumps) are lawful. The result is none
--- if
--- no proof is found.
+-- Computes a proof that the interrupts and dumps of a book are lawful (`LawfulSamples`). The result is none if no proof
+-- is found.
 use Rattle.std.proofs.Common.{◌≡◌, ◌<◌, ℕ, zero, suc, true, Option, Some, None, List, [], ◌∷◌, refl, sym, ◌∙◌, ap}
 use Rattle.std.proofs.Common.{slice_get}
 use Rattle.std.specs.Prelude.{option_and_then}
