@@ -96,8 +96,7 @@ impl Base {
     }
 
     /// Installs a root at the moment `now`, in milliseconds (`crng_reseed`). The generation goes up by one, and the
-    /// core
-    /// becomes ready. A timer is set if none is pending. `now` is below 2^40, and the generation below 2^63.
+    /// core becomes ready. A timer is set if none is pending. `now` is below 2^40, and the generation below 2^63.
     pub fn install(&mut self, root: [u8; 32], now: u64)
         requires generation { self.old.generation < 2 ^ 63 }
         requires now { now < 2 ^ 40 }
@@ -121,8 +120,7 @@ impl Base {
 
     /// Installs a root at the moment `now`, in milliseconds, and sets the next timer (`crng_reseed` as the delayed
     /// work). The generation goes up by one, and the core becomes ready. The lanes check that the timer is due. `now`
-    /// is below
-    /// 2^40, and the generation below 2^63.
+    /// is below 2^40, and the generation below 2^63.
     pub fn fire(&mut self, root: [u8; 32], now: u64)
         requires generation { self.old.generation < 2 ^ 63 }
         requires now { now < 2 ^ 40 }

@@ -1,4 +1,5 @@
--- Different lists of draws lead to different orders of different items, and each such order has a list of draws.
+-- A shuffle of different items: different lists of draws lead to different orders, and each order comes from some list
+-- of draws.
 use Rattle.std.proofs.Common.{◌≡◌, ◌<◌, ◌≤◌, ◌-◌, ℕ, zero, suc, List, [], ◌∷◌, length, get_or, refl, ap, sym, ◌∙◌, subst, arith, ⊎_elim}
 use Rattle.std.specs.List.{swap}
 use Rattle.std.specs.List.Sorted.{IsPermutation}

@@ -50,7 +50,7 @@ abbrev pub Makes : List ℕ → List ℕ → List ℕ → Type 0
 Makes before draws after = (length draws ≡ length before - 1) × AreDraws (length before - 1) draws
     × (exchanged (length before - 1) draws before ≡ after)
 
--- each order of different items has exactly one list of draws
+-- each order of different items comes from exactly one list of a shuffle's draws
 abbrev pub EachOrderHasItsDraws : Type 0
 EachOrderHasItsDraws = (items order : List ℕ) → AreDifferent items → IsPermutation items order →
     (draws : List ℕ) × Makes items draws order × ((others : List ℕ) → Makes items others order → others ≡ draws)

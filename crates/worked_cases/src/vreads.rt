@@ -1,4 +1,4 @@
-//! vgetrandom calls.
+//! Worked cases of vgetrandom calls.
 ghost use Rattle.worked_cases.specs.Runs.{Holds};
 ghost use Rattle.worked_cases.specs.Vreads.{vread_batch, vread_of_nothing, wipe_inside_with_nested_read};
 ghost use Rattle.worked_cases.specs.Vreads.{reseed_inside_vread, point_not_reached, two_vgetrandom_states, load_1_1_8};
