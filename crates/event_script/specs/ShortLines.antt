@@ -6,7 +6,7 @@ use Rattle.key_names.specs.declared.events.Word.TheVariants.{At, Credit, Bits, I
 use Rattle.event_script.specs.declared.statements.short.NumberFields.{NumberFields}
 use Rattle.event_script.specs.declared.statements.short.NumberFields.TheVariants.{None, One, Two}
 
--- the bytes between a word and the line feed
+-- the bytes between a word and the line feed, if the given numbers follow the word
 abbrev pub after_word : NumberFields → List ℕ
 after_word None = []
 after_word (One a) = 32 ∷ decimal a

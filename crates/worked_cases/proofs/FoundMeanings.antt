@@ -30,7 +30,7 @@ use Rattle.worked_cases.proofs.FoundVreads.{HostFound, vgetrandom_found}
 abbrev pub After : Lists → SeenLine → LineMeaning → Type 0
 After lists line m = effects_of lists line.steps ≡ m.effects
 
--- `m` is a meaning of the call; in `m` the caller has this state before the call
+-- `m` is a meaning of `call`; in `m` the caller has the state `before` when the call begins
 pub record CallFound (lists : Lists) (before : CallerState) (call : Call) : Type 0 where
   pub m : CallMeaning
   pub begins : m.before ≡ before

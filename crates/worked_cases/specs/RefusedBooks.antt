@@ -8,7 +8,7 @@ use Rattle.key_names.specs.declared.entries.VEntry.{VEntry}
 use Rattle.key_names.specs.declared.entries.VEntry.TheVariants.{Rekey, Blocks}
 use Rattle.key_names.specs.Lanes.Book.{Book, Lists}
 
--- two CPUs take the same refill
+-- two CPUs take their key from the same refill (an entry of the base that hands over a key)
 abbrev pub shared_refill : Lists
 shared_refill = record {
   pool = Mix [] 256 ∷ Extract (replicate 32 0) 0 ∷ [];

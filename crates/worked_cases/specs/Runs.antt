@@ -8,7 +8,7 @@ use Rattle.key_names.specs.Texts.ScriptGrammar.{Script, IsScript}
 use Rattle.key_names.specs.Texts.TranscriptGrammar.{IsTranscriptText}
 use Rattle.key_names.specs.Transcripts.IsTranscript.{IsTranscript, FirstFails, Clause, lines_clause}
 
--- the input is the text of a script, and the output is the text of a transcript that is lawful for this script
+-- `input` is the text of a script, and `output` is the text of a transcript that is lawful for this script
 pub record IsLawfulRun (input output : List ℕ) : Type 0 where
   pub script : Script
   pub lines : List (List SeenLine)
@@ -16,8 +16,7 @@ pub record IsLawfulRun (input output : List ℕ) : Type 0 where
   pub lines_are : IsTranscriptText output lines
   pub lawful : IsTranscript script lines
 
--- the input is the text of a script, the output is the text of a transcript, and this clause is the first that fails
--- for them
+-- `input` is the text of a script, `output` is the text of a transcript, and `clause` is the first that fails for them
 pub record FailsFirst (clause : Clause) (input output : List ℕ) : Type 0 where
   pub script : Script
   pub lines : List (List SeenLine)

@@ -17,7 +17,7 @@ pub fn before_readiness()
     ensures { Holds before_readiness }
 {}
 
-/// A credit of 256 bits makes the core ready, and a read refills the CPU.
+/// A credit of 256 bits makes the core ready, and a read gets the CPU a key from the base (a refill).
 #[tactic(auto, using(crate::proofs::ReadinessLanes::first_use_after_credit_holds))]
 pub fn first_use_after_credit()
     ensures { Holds first_use_after_credit }

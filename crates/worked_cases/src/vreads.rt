@@ -28,7 +28,7 @@ pub fn reseed_inside_vread()
     ensures { Holds reseed_inside_vread }
 {}
 
-/// If a read does not reach the point of an act, the act is not done.
+/// If a `vread` does not reach the point of an act (an event inside the `vread`), the act is not done.
 #[tactic(auto, using(crate::proofs::VreadLanes::point_not_reached_holds))]
 pub fn point_not_reached()
     ensures { Holds point_not_reached }
