@@ -23,7 +23,7 @@ pub record BaseValue : Type 0 where
   pub timer : Option ℕ
   -- whether the system is young: no reseed at 120 seconds of uptime or later has computed an interval
   pub early_boot : Bool
-  -- how many callers run
+  -- the number of running callers
   pub running : ℕ
 
 abbrev pub start : BaseValue

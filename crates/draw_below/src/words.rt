@@ -30,7 +30,7 @@ impl Model for ListWords {
 }
 
 impl ListWords {
-    /// The words of this list.
+    /// A source that gives the words of the list `words`.
     pub fn of(words: Vec<u32>) -> ListWords
         ensures { result ≡ words.items }
     {

@@ -10,7 +10,7 @@ use Rattle.event_script.specs.declared.progress.DraftView.{DraftView}
 use Rattle.event_script.specs.declared.progress.ScriptProgress.{ScriptProgress}
 use Rattle.event_script.specs.declared.progress.ScriptProgress.TheVariants.{Waits, Open, Ended, Faulty}
 
--- whatever follows the text, the script goes on from this draft; `n` is the number of the next line
+-- whatever follows the text, the script goes on from the draft `d`; `n` is the number of the next line
 abbrev pub GoesOnFrom : List ℕ → Draft → ℕ → Type 0
 GoesOnFrom text d n = (later : List ℕ) → script_of_lines (parts 10 (text ++ later)) ≡ script_from d n (parts 10 later)
 

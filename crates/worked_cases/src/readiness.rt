@@ -23,7 +23,7 @@ pub fn first_use_after_credit()
     ensures { Holds first_use_after_credit }
 {}
 
-/// Before the first credit each read extracts a root.
+/// Before the first credit each read extracts a root (new base key).
 #[tactic(auto, using(crate::proofs::ReadinessLanes::empty_base_extracts_each_time_holds))]
 pub fn empty_base_extracts_each_time()
     ensures { Holds empty_base_extracts_each_time }
@@ -47,7 +47,7 @@ pub fn early_step_skipped()
     ensures { Holds early_step_skipped }
 {}
 
-/// A read from an early base extracts no root.
+/// If the base has an early key (128 bits are credited), a read extracts no root (new base key).
 #[tactic(auto, using(crate::proofs::ReadinessLanes::early_base_no_second_extraction_holds))]
 pub fn early_base_no_second_extraction()
     ensures { Holds early_base_no_second_extraction }
