@@ -63,7 +63,8 @@ reads_of v w (r ∷ rs) t =
       );
     }
 
--- a sample was added on a new table, and then words were read
+-- `p` is the view (what a pass knows and did) on a new table, `q` the view after a sample was added, and `w` the view
+-- after `words` were read
 module _ (set : Setting) (plain : set ≡ first_setting 0) (p q w : View) (words : List ℕ) (new : p ≡ start)
     (sampled : (steps : List Step)
     × Makes (IsOutcomeOf (setting_of set) (Add (range_with_len 0 32) 256) Done no_data) set (knowing p []) (knowing q steps))
