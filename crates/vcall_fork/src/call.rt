@@ -16,8 +16,8 @@ use vdso_state::{
     Came, Place, Point, Turn, VEnd, VHost, VState, begin, finish, resume, vgetrandom,
 };
 
-/// A call of vgetrandom, without its state and its buffer. The state and the buffer belong to the caller, and a forked
-/// call has its own.
+/// A call of vgetrandom, without its state and its buffer. The state and the buffer belong to the caller, and after a
+/// fork the child has its own.
 #[derive(Clone, Copy, Debug)]
 pub struct VCall {
     /// The number of bytes that the call reads, at most 2^20.

@@ -16,7 +16,7 @@ pub fn fork_without_a_visit()
     ensures { FailsFirst forms_clause fork_without_a_visit.script (transcript_with fork_without_a_visit.lines) }
 {}
 
-/// The looks of a vgetrandom call never fall.
+/// No look (read of the generation) of a vgetrandom call may find a lower generation than the look before.
 #[tactic(auto, using(crate::proofs::UnfitForms::looks_that_fall_fails))]
 pub fn looks_that_fall()
     ensures { FailsFirst forms_clause looks_that_fall.script (transcript_with looks_that_fall.lines) }

@@ -30,7 +30,7 @@ pub(crate) enum NumberFields {
     Two(u64, u64),
 }
 
-/// The word at the start of a text, and the text after it.
+/// The word at the start of a text, and the text after the word.
 fn word_in_front(text: &[u8]) -> Option<(Word, &[u8])>
     ensures { IfSome result (λ both. text.now ≡ word_text both.0 ++ both.1.now) }
 {

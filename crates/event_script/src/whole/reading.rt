@@ -21,7 +21,7 @@ use crate::whole::error::LineError;
 use key_names::{Event, FaultKind, ScriptFault};
 use std::alloc::Global;
 
-/// The first line of a text, and the text after it.
+/// The first line of a text, and the text after this line.
 fn first_line(text: &[u8]) -> Result<(&[u8], &[u8]), FaultKind>
     ensures line { Tells (λ both. both.0.now) result (line_of (parts 10 text.now)) }
     ensures rest { IfOk result (λ both. parts 10 both.1.now ≡ following (parts 10 text.now)) }
