@@ -133,7 +133,7 @@ stalled child (at_base f ∷ at_base s ∷ at_base u ∷ []) =
     (same_base f.entry (Forked child)) (same_base s.entry Stall) (same_base u.entry Unstall)
 stalled child _ = None
 
--- the bytes that a pool entry mixes, and the bits that it credits
+-- the bytes that a `Mix` entry of the pool mixes, and the bits that it credits; none for any other entry
 abbrev mix_of : PoolEntry → List ℕ × ℕ
 mix_of (Mix text bits) = (text, bits)
 mix_of _ = ([], 0)
