@@ -11,7 +11,7 @@ use Rattle.key_names.specs.Lanes.BaseList.{BaseState, root_of, base_erases, base
 use Rattle.key_names.specs.Keys.KeyInUse.{zero_key, root_value_or, base_value_step, base_value_after}
 use Rattle.base_gen.specs.BaseValue.{key_in_use, after_entry, base_at, after_entries}
 
--- if the entry names a root, `root` is the value of this root
+-- if the entry `e` names a root (the key from an extraction of the pool), `root` is the value of this root
 abbrev pub HandsRoot : List PoolEntry → BaseEntry → List ℕ → Type 0
 HandsRoot pool e root = (place : ℕ) → root_of e ≡ Some place → root ≡ root_value pool place
 
@@ -21,7 +21,8 @@ pub key_in_use-root : (pool : List PoolEntry) (named : Option ℕ) (root key : L
 key_in_use-root pool None root key is = refl
 key_in_use-root pool (Some place) root key is = is place refl
 
--- if `root` is the root that `e` names, then `e` changes the base of the state `s` into the base of the state after `e`
+-- if `root` is the root that `e` names, then `e` changes the base with the state `s` and the key `value` into the base
+-- with the state and the key after `e`
 pub after_entry-base_at : (pool : List PoolEntry) (s : BaseState) (value root : List ℕ) (e : BaseEntry) →
     HandsRoot pool e root → after_entry e root (base_at s value) ≡
     base_at (base_step s e) (base_value_step pool value e)

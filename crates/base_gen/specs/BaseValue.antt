@@ -23,7 +23,7 @@ pub record BaseValue : Type 0 where
   pub timer : Option ℕ
   -- whether the system is young: no reseed at 120 seconds of uptime or later has computed an interval
   pub early_boot : Bool
-  -- how many callers run
+  -- the number of running callers
   pub running : ℕ
 
 abbrev pub start : BaseValue
@@ -38,7 +38,7 @@ abbrev pub key_in_use : Option ℕ → List ℕ → List ℕ → List ℕ
 key_in_use None root key = key
 key_in_use (Some place) root key = root
 
--- the base after an entry, given the root that the entry names
+-- the base `b` after the entry `e`; `root` is the root that `e` names, if it names one
 abbrev pub after_entry : BaseEntry → List ℕ → BaseValue → BaseValue
 after_entry e root b = record {
   key = (let used = key_in_use (root_of e) root b.key in if base_erases e then keystream used 0 32 else used);
@@ -60,7 +60,7 @@ reseeded now root b = after_entry (Reseed 0 now) root b
 abbrev pub fired : ℕ → List ℕ → BaseValue → BaseValue
 fired now root b = after_entry (Tick now (Some 0)) root b
 
--- the base after a list, given the state after the list and the value of the key
+-- the base after a list of entries: `s` is the state after the list, and `value` is the key
 abbrev pub base_at : BaseState → List ℕ → BaseValue
 base_at s value = record {
   key = value;

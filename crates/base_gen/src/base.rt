@@ -95,8 +95,8 @@ impl Base {
         self.phase = Phase::Early;
     }
 
-    /// Installs a root at this moment in milliseconds (`crng_reseed`). The generation goes up by one, and the core
-    /// becomes ready. A timer is set if none is pending. `now` is below 2^40, and the generation below 2^63.
+    /// Installs a root at the moment `now`, in milliseconds (`crng_reseed`). The generation goes up by one, and the
+    /// core becomes ready. A timer is set if none is pending. `now` is below 2^40, and the generation below 2^63.
     pub fn install(&mut self, root: [u8; 32], now: u64)
         requires generation { self.old.generation < 2 ^ 63 }
         requires now { now < 2 ^ 40 }
@@ -108,7 +108,7 @@ impl Base {
         }
     }
 
-    /// Whether the timer is set, and due at this moment in milliseconds.
+    /// Whether the reseed timer is set, and due at the moment `now`, in milliseconds.
     pub fn due(&self, now: u64) -> bool
         ensures { IsTrue result ↔ IsDue self.now.timer now }
     {
@@ -118,9 +118,9 @@ impl Base {
         }
     }
 
-    /// Installs a root at this moment in milliseconds, and sets the next timer (`crng_reseed` as the delayed work). The
-    /// generation goes up by one, and the core becomes ready. The lanes check that the timer is due. `now` is below
-    /// 2^40, and the generation below 2^63.
+    /// Installs a root at the moment `now`, in milliseconds, and sets the next timer (`crng_reseed` as the delayed
+    /// work). The generation goes up by one, and the core becomes ready. The lanes check that the timer is due. `now`
+    /// is below 2^40, and the generation below 2^63.
     pub fn fire(&mut self, root: [u8; 32], now: u64)
         requires generation { self.old.generation < 2 ^ 63 }
         requires now { now < 2 ^ 40 }

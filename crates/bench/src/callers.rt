@@ -9,7 +9,7 @@ use std::thread;
 use std::thread::Threads;
 use transcript_text::Transcript;
 
-/// A script of two callers, for runs of the program without words.
+/// A script of two callers, for runs of the program without arguments.
 pub const SHORT_RUN: &[u8] =
     b"rngscript 1\ncpus 2\ncaller 0\ncredit 256\nfork 1\nkread 32\ncaller 1\non 1\nkread 32\nend\n";
 

@@ -1,4 +1,4 @@
-//! A lane and a `Mutex` without contention.
+//! Loops over a lane (the pool, the base or a CPU, with its lock) and over a `Mutex`, both without contention.
 ghost use Rattle.std.specs.Prelude.{◌≡◌, ◌≢◌, ℕ, ◌+◌, ◌^◌, ◌<◌, ◌≤◌, [], IfOk};
 ghost use Rattle.key_names.specs.declared.entries.CpuEntry.TheVariants.{Irq};
 ghost use Rattle.lane_table.specs.declared.view.Handed.{Handed};

@@ -45,7 +45,8 @@ pub fn hashed(alloc: Global, len: u32) -> Result<u64, AllocError> {
     Ok(end_of(&hash(None, &bytes)))
 }
 
-/// The hash of `count` samples of 64 zero bytes. Many are appended at once, so nearly all work is their compression.
+/// The hash of `count` samples of 64 zero bytes. `MANY` samples are appended at once, so nearly all work is their
+/// compression.
 pub fn bulk(count: u32) -> u64 {
     let samples = [0; 64 * MANY as usize];
     let mut hash = Blake2s::plain();

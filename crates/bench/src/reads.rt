@@ -9,7 +9,7 @@ use std::alloc::{AllocError, Global};
 /// The function that fills the buffer in a read.
 #[derive(Clone, Copy)]
 pub enum ReadFunction {
-    /// A new generator of the kit, without any other work.
+    /// A new generator of `rand_chacha`, without any other work.
     Bare,
     /// The key's stream from its start.
     Fill,

@@ -7,10 +7,10 @@ use memchr::memchr;
 use std::alloc::Global;
 use transcript_text::Transcript;
 
-/// A script, for runs of the program without words.
+/// A script, for runs of the program without arguments.
 pub const SCRIPT: &[u8] = b"rngscript 1\ncpus 1\ncaller 0\nwrite 616263\nirq 1 2\nend\n";
 
-/// A transcript, for runs of the program without words.
+/// A transcript, for runs of the program without arguments.
 pub const TRANSCRIPT: &[u8] =
     b"rngtranscript 1\n0.0 read ok ~0,p:0@1,b:0@2 616263\n0.1 end ok b:1@3 -\nend\n";
 
@@ -34,7 +34,7 @@ fn read_transcript(alloc: Global, text: &[u8]) -> Result<Transcript> {
     }
 }
 
-/// The number of callers of a script.
+/// Reads a script `times` times. Returns its number of callers.
 pub fn script(alloc: Global, text: &[u8], times: u32) -> Result<u64> {
     let mut count = 0;
     for _ in 0..times {
@@ -43,7 +43,7 @@ pub fn script(alloc: Global, text: &[u8], times: u32) -> Result<u64> {
     Ok(count)
 }
 
-/// The number of callers of a transcript.
+/// Reads a transcript `times` times. Returns its number of callers.
 pub fn transcript(alloc: Global, text: &[u8], times: u32) -> Result<u64> {
     let mut count = 0;
     for _ in 0..times {
@@ -69,7 +69,7 @@ fn digits_of(lines: Lines, line: &[u8]) -> Option<&[u8]> {
     }
 }
 
-// The first line of a text, and the text after its end.
+// The first line of a text, and the text after that line.
 fn cut_line(text: &[u8]) -> Option<(&[u8], &[u8])>
     ensures { IfSome result (λ both. length both.1.now < length text.now) }
 {
@@ -89,7 +89,8 @@ fn decoded(alloc: Global, lines: Lines, text: &[u8]) -> Result<u64> {
     Ok(count)
 }
 
-/// The number of bytes in the lines of this kind. The loop looks only for line ends and for these bytes.
+/// The number of bytes that the lines of the given kind contain in hexadecimal. The loop looks only for line feeds and
+/// for these bytes.
 pub fn plain_lines(alloc: Global, lines: Lines, text: &[u8], times: u32) -> Result<u64> {
     let mut count = 0;
     for _ in 0..times {

@@ -1,4 +1,4 @@
--- If the last block is hashed, the words are the hash of the whole text.
+-- After the last block is hashed, the hash words are the hash of the whole text.
 use Rattle.std.proofs.Common.{◌≡◌, ℕ, ◌+◌, ◌-◌, ◌*◌, ◌%◌, ◌^◌, ◌≤◌, List, [], ◌∷◌, ◌++◌, length, take, replicate, true, Option, refl, sym, ap, ◌∙◌, arith, length-drop}
 use Rattle.std.specs.List.{flat_map}
 use Rattle.std.proofs.lemmas.List.{take-replicate}
@@ -8,7 +8,7 @@ use Rattle.byteorder.specs.Endian.{little_bytes}
 use Rattle.key_names.specs.Kernel.Blake2s.{blake2s, block_bytes, compressed, inner_blocks, inner_count, key_len, last_block, message, start_words}
 use Rattle.blake2s_core.specs.Hash.{Hash, Conforms}
 
--- the kept bytes, padded with zeros to 64 bytes, are the block that the definition makes of them
+-- the bytes `rest` that a hash keeps, padded with zeros to 64 bytes, are the block that the definition makes of them
 padded : (rest : List ℕ) (used : ℕ) → used ≡ length rest → used ≤ 64
     → rest ++ replicate (64 - used) 0 ≡ take 64 (rest ++ replicate 64 0)
 padded rest used len fits =

@@ -69,7 +69,7 @@ IsTail-drop bytes tail n k is_tail =
     let place : 64 * n + 64 * k ≡ 64 * (n + k) = omega arith in
     rw (← is_tail.dropped) (drop-drop (64 * k) (64 * n) bytes ∙ ap (λ (i : ℕ). drop i bytes) place)
 
--- the first chunks of 64 bytes in the tail are blocks of the message
+-- chunk `k` of 64 bytes in `tail`, the message after its first `n` blocks, is block `n + k` of the message
 pub chunk_block : (bytes tail : List ℕ) (n inner k : ℕ) (chunks : List (List ℕ)) → IsTail bytes n tail
     → chunks ≡ first_chunks 64 (length tail / 64) tail → k < inner → inner ≤ length tail / 64
     → get_or (take inner chunks) k [] ≡ block_bytes bytes (n + k)
@@ -91,14 +91,14 @@ module _ (hash : Hash) (key : Option (List ℕ)) (text : List ℕ) (conforms : C
   length-rest : length hash.rest ≡ length (message key text) - 64 * inner_count (message key text)
   length-rest = ap length conforms.last ∙ length-drop (64 * inner_count (message key text)) (message key text)
 
-  -- the kept bytes and the added bytes together are the end of the longer message
+  -- the bytes that the hash keeps and the added bytes, `more`, together are the end of the longer message
   rest-append : (more : List ℕ)
       → hash.rest ++ more ≡ drop (64 * inner_count (message key text)) (message key text ++ more)
   rest-append more =
       let m = message key text in
       ap (λ (r : List ℕ). r ++ more) conforms.last ∙ sym (drop-append-le (64 * inner_count m) m more (omega arith))
 
-  -- if the added bytes fit into the last block, they are appended to the kept bytes
+  -- if the added bytes, `more`, fit into the last block, `Conforms` holds once they are appended to the kept bytes
   pub Conforms_short : (more rest : List ℕ) → length hash.rest + length more ≤ 64 → rest ≡ hash.rest ++ more
       → Conforms (record hash { rest = rest }) key (text ++ more)
   Conforms_short more rest fits grown =
@@ -111,7 +111,7 @@ module _ (hash : Hash) (key : Option (List ℕ)) (text : List ℕ) (conforms : C
         last = rw (message-append key text more, same) (grown ∙ rest-append more);
       }
 
-  -- the words after the blocks hashed so far are the same for the longer message
+  -- the hash words after the blocks hashed so far are the same for the longer message
   pub Conforms-IsAfter : (more : List ℕ)
       → IsAfter hash.words hash.count (start_words (key_len key)) (message key (text ++ more))
       (inner_count (message key text))
@@ -130,7 +130,7 @@ module _ (hash : Hash) (key : Option (List ℕ)) (text : List ℕ) (conforms : C
     length_front : length (message key text ++ head) ≡ 64 * (inner_count (message key text) + 1)
     length_front = omega (arith, length-rest, length-append (message key text) head)
 
-    -- the head of the added bytes fills up the block of the kept bytes
+    -- the bytes that the hash keeps and `head`, the first added bytes, together are one block of the longer message
     pub filled_block : hash.rest ++ head ≡ block_bytes (message key (text ++ more)) (inner_count (message key text))
     filled_block =
         let front = message key text ++ head in
@@ -140,7 +140,7 @@ module _ (hash : Hash) (key : Option (List ℕ)) (text : List ℕ) (conforms : C
         rw message_cut
         (rest-append head ∙ sym all ∙ sym (block_bytes_whole front n fits) ∙ sym (block_bytes-append front tail n fits))
 
-    -- the tail comes after the filled block
+    -- `tail`, the other added bytes, comes after that block in the longer message
     pub tail_of_message : IsTail (message key (text ++ more)) (inner_count (message key text) + 1) tail
     tail_of_message =
         let front = message key text ++ head in
@@ -149,7 +149,7 @@ module _ (hash : Hash) (key : Option (List ℕ)) (text : List ℕ) (conforms : C
           counted = rw message_cut (omega (arith, length_front, length-append front tail));
         }
 
--- `Conforms` holds if all blocks of the tail but the last were hashed, and the last is kept
+-- if all blocks of `tail`, the end of the message, but the last were hashed, and the last is kept, `Conforms` holds
 pub Conforms_tail : (key : Option (List ℕ)) (text words rest : List ℕ) (count : ℕ) (tail : List ℕ) (n k : ℕ)
     → IsTail (message key text) n tail → 0 < length tail → k ≡ (length tail - 1) / 64
     → IsAfter words count (start_words (key_len key)) (message key text) (n + k) → rest ≡ drop (64 * k) tail

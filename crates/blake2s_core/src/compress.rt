@@ -5,12 +5,12 @@ ghost use Rattle.key_names.specs.Kernel.Blake2s.{Block, compressed, folded, mess
 
 use byteorder::{ByteOrder, LittleEndian};
 
-// The initialization vector (section 2.6).
+// The initialization vector (RFC 7693, section 2.6).
 pub(crate) const IV: [u32; 8] = [
     0x6A09E667, 0xBB67AE85, 0x3C6EF372, 0xA54FF53A, 0x510E527F, 0x9B05688C, 0x1F83D9AB, 0x5BE0CD19,
 ];
 
-// The mixing function G (section 3.1).
+// The mixing function G (RFC 7693, section 3.1).
 #[inline(always)]
 fn mix(a: u32, b: u32, c: u32, d: u32, x: u32, y: u32) -> (u32, u32, u32, u32)
     ensures { result ≡ mixed a b c d x y }
@@ -55,7 +55,7 @@ macro_rules! rounds {
     }};
 }
 
-// The ten rounds, each with the message words in the order of its schedule (section 2.7).
+// The ten rounds, each with the message words in the order of its schedule (RFC 7693, section 2.7).
 #[inline(always)]
 fn all_rounds(words: &[u32; 16], start: [u32; 16]) -> [u32; 16]
     ensures { result ≡ rounds words.now start }
@@ -75,7 +75,7 @@ fn all_rounds(words: &[u32; 16], start: [u32; 16]) -> [u32; 16]
     )
 }
 
-// The vector before the rounds. `count` is the number of the message's bytes up to the end of this block.
+// The vector before the rounds. `count` is the number of the message's bytes up to the end of the block.
 #[inline(always)]
 fn start_vector(h: [u32; 8], count: u64, is_last: bool) -> [u32; 16]
     ensures { result ≡ start_vector h count is_last }

@@ -18,7 +18,7 @@ struct Chain {
 }
 
 impl Chain {
-    // The words before any block, for a hash of 32 bytes under a key of `key_len` bytes (section 2.5).
+    // The words before any block, for a hash of 32 bytes under a key of `key_len` bytes (RFC 7693, section 2.5).
     fn start(key_len: u8) -> Chain
         ensures words { result.words ≡ start_words key_len }
         ensures count { result.count ≡ 0 }

@@ -4,7 +4,7 @@ use Rattle.std.specs.Prelude.{slice_range}
 use Rattle.key_names.specs.Kernel.Keystream.{keystream}
 use Rattle.key_names.proofs.Standards.Keystreams.{slice_range-keystream}
 
--- n bytes of a piece, from byte i of it on, are a piece of the same keystream
+-- if `piece` is keystream from byte `at` on, its `n` bytes from byte `i` on are keystream from byte `at + i` on
 pub part_of : (key piece part : List ℕ) (at len i n from : ℕ) → piece ≡ keystream key at len
     → part ≡ slice_range piece i (i + n) → i + n ≤ len → at + i ≡ from → part ≡ keystream key from n
 part_of key piece part at len i n from made cut fits start =

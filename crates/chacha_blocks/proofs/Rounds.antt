@@ -4,7 +4,7 @@ use Rattle.rand_chacha.specs.Block.{add32, xor_rotate, quarter_round, column_rou
 use Rattle.rand_chacha.proofs.LaneLemmas.{four_lanes}
 use Rattle.chacha_blocks.specs.Rows.{word, state_of, turned, turned_back}
 
--- a row of four words is the list of these words
+-- a list of length 4 is the list of its elements 0, 1, 2 and 3
 pub row_is : (xs : List ℕ) → length xs ≡ 4
     → xs ≡ slice_index xs 0 ∷ slice_index xs 1 ∷ slice_index xs 2 ∷ slice_index xs 3 ∷ []
 row_is =
@@ -18,7 +18,7 @@ pub quarter_round_is : (a b c d a1 d1 c1 b1 a2 d2 c2 b2 : ℕ) → a1 ≡ add32 
 unfolding quarter_round
 quarter_round_is a b c d a1 d1 c1 b1 a2 d2 c2 b2 s1 s2 s3 s4 s5 s6 s7 s8 = rw (s8, s7, s6, s5, s4, s3, s2, s1) refl
 
--- if the quarter round is made on each column, the result is the column round
+-- if each column of the rows `y` is the quarter round of that column of `x`, then `y` is the column round of `x`
 pub column_round_is : (x y : List (List ℕ))
     → ((j : ℕ) → j < 4 → (word y 0 j, word y 1 j, word y 2 j, word y 3 j)
     ≡ quarter_round (word x 0 j) (word x 1 j) (word x 2 j) (word x 3 j))
@@ -27,12 +27,12 @@ unfolding column_round
 column_round_is x y columns =
     rw (← columns 0 (omega arith), ← columns 1 (omega arith), ← columns 2 (omega arith), ← columns 3 (omega arith)) refl
 
--- a diagonal round is a column round on the turned state, turned back
+-- a diagonal round turns the rows of the state, makes a column round, and turns the rows back
 pub diagonal_round_is : (x : List ℕ) → turned_back (column_round (turned x)) ≡ diagonal_round x
 unfolding column_round diagonal_round
 diagonal_round_is x = refl
 
--- ---- n double rounds
+-- ---- Any number of double rounds
 
 pub no_rounds : (start : List ℕ) → start ≡ double_rounds 0 start
 unfolding double_rounds

@@ -15,7 +15,7 @@ use Rattle.key_names.proofs.Standards.Keystreams.{keystream-add, take-keystream}
 use Rattle.chacha_blocks.specs.Place.{generator_at}
 use Rattle.chacha_blocks.specs.Rows.{state_of}
 
--- byte 4 w + i of the keystream is byte i of word w
+-- byte `4 * w + i` of a key's keystream is byte `i` of its word `w`
 keystream_byte-in_word : (key : List ℕ) (w i q : ℕ) → i < 4 → q ≡ 4 * w + i → keystream_byte key q ≡
     slice_index (to_le_bytes w32 (word_at 10 (key_of key) 0 w)) i
 unfolding keystream_byte
@@ -23,7 +23,7 @@ keystream_byte-in_word key w i q below at =
     let word : q / 4 ≡ w = omega arith in let byte : q % 4 ≡ i = omega arith in
     rw (word, byte) refl
 
--- the four bytes of keystream from byte 4 w on are word w
+-- the four bytes of a key's keystream from byte `4 * w` on are its word `w`
 keystream-word : (key : List ℕ) (w : ℕ) → keystream key (4 * w) 4 ≡ to_le_bytes w32 (word_at 10 (key_of key) 0 w)
 keystream-word key w =
     let at = keystream_byte-in_word key w in
@@ -34,7 +34,7 @@ keystream-word key w =
       at 3 (4 * w + 1 + 1 + 1) (omega arith) (omega arith),
     ) refl
 
--- the 4 k bytes of keystream from byte 4 w on are the k words from word w on
+-- the `4 * k` bytes of a key's keystream from byte `4 * w` on are its `k` words from word `w` on
 keystream-words : (key : List ℕ) (w k : ℕ)
     → keystream key (4 * w) (4 * k) ≡ flat_map (to_le_bytes w32) (map (word_at 10 (key_of key) 0) (range_with_len w k))
 keystream-words key w zero = refl
@@ -44,7 +44,7 @@ keystream-words key w (suc k) =
     ap (keystream key (4 * w)) more ∙ keystream-add key (4 * w) 4 (4 * k)
     ∙ ap₂ ◌++◌ (keystream-word key w) (ap (λ q. keystream key q (4 * k)) next ∙ keystream-words key (w + 1) k)
 
--- the 16 words of a block are 64 bytes of keystream
+-- the 16 words of block `number` are the 64 bytes of keystream from byte `64 * number` on
 words_of_block : (key words : List ℕ) (number : ℕ) → length words ≡ 16
     → ((k : ℕ) → k < 16 → slice_index words k ≡ block_word 10 (key_of key) number 0 k)
     → flat_map (to_le_bytes w32) words ≡ keystream key (64 * number) 64
@@ -72,7 +72,7 @@ block_bytes key rows start number words summed begun mixed =
     ap at summed ∙ get_or-zip2 add32 (state_of rows) (state_of start) k 0 0 0 below below
     ∙ ap₂ add32 (ap at (mixed ∙ ap (double_rounds 10) begun)) (ap at begun))
 
--- the generator's next k words are keystream from the generator's place on
+-- the next `k` words of the generator at word `w` are keystream from byte `4 * w` on
 word_bytes-generator_at : (key : List ℕ) (w k : ℕ) → w + k < 2 ^ 68 →
     word_bytes (to_le_bytes w32) (next_word 10) k (generator_at key w) ≡
     (keystream key (4 * w) (4 * k), generator_at key (w + k))
@@ -91,7 +91,7 @@ word_bytes-generator_at key w (suc k) within =
     ∙ sym (keystream-add key (4 * w) (4 * k) 4) ∙ ap (keystream key (4 * w)) longer in
     rw (word_bytes-generator_at key w k before, bytes, next) refl
 
--- the generator's next n bytes are keystream from the generator's place on
+-- the next `n` bytes of the generator at word `w` are keystream from byte `4 * w` on
 pub fill_via_u32-generator_at : (key : List ℕ) (w n : ℕ) → w + n < 2 ^ 67 →
     fill_via_u32 (next_word 10) n (generator_at key w) ≡ (keystream key (4 * w) n, generator_at key (w + (n + 3) / 4))
 fill_via_u32-generator_at key w n within =
@@ -99,7 +99,7 @@ fill_via_u32-generator_at key w n within =
     let enough : n ≤ 4 * ((n + 3) / 4) = omega arith in
     rw (word_bytes-generator_at key w ((n + 3) / 4) words, take-keystream key (4 * w) (4 * ((n + 3) / 4)) n enough) refl
 
--- the bytes that a fill wrote are keystream from the generator's place on
+-- if a fill took `n` bytes from the generator at word `w`, they are keystream from byte `4 * w` on
 pub bytes_of_fill : (key : List ℕ) (w n : ℕ) (rng rest : ChaCha) (bytes : List ℕ) → rng ≡ generator_at key w →
     (bytes, rest) ≡ fill_via_u32 (next_word 10) n rng → w + n < 2 ^ 67 → bytes ≡ keystream key (4 * w) n
 bytes_of_fill key w n rng rest bytes begins wrote within =

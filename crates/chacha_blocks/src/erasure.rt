@@ -24,7 +24,7 @@ pub struct Detached {
 }
 
 impl Detached {
-    /// This key, with `next_block` as the next block.
+    /// The key `key`, whose next bytes come from block `next_block` on.
     pub fn of(key: [u8; 32], next_block: u64) -> Detached
         ensures key { result.key ≡ key }
         ensures next_block { result.next_block ≡ next_block }

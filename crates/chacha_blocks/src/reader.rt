@@ -30,8 +30,8 @@ impl Model for KeystreamReader {
 }
 
 impl KeystreamReader {
-    /// The key's keystream from this word on. Nothing is computed before the first read, unless the word is inside a
-    /// block.
+    /// A reader of the key's keystream from word number `word` on. Nothing is computed before the first read, unless
+    /// that word is inside a block.
     #[inline]
     pub(crate) fn at(key: &[u8; 32], word: u64) -> KeystreamReader
         ensures { result ≡ record { key = key.now; word = word } }

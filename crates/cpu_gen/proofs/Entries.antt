@@ -9,11 +9,11 @@ use Rattle.key_names.specs.Keys.KeyInUse.{base_call_value, call_value_or, cpu_va
 use Rattle.key_names.specs.Lanes.Book.{Lists}
 use Rattle.cpu_gen.specs.CpuValue.{CpuValue, erased, refilled, after_entry, cpu_at}
 
--- the key and the generation that the base hands over at a place
+-- the key and the generation that the base hands over at place `b` of its list
 abbrev pub handed_at : Lists → ℕ → CpuValue
 handed_at lists b = record { key = base_call_value lists b; generation = generation_at lists.base b }
 
--- if the entry names a refill, `handed` is the key and the generation that the base hands over in this refill
+-- if the entry `e` names a refill, `handed` is the key and the generation that the base hands over in this refill
 abbrev pub HandsRefill : Lists → CpuEntry → CpuValue → Type 0
 HandsRefill lists e handed = (place : ℕ) → base_refill_of e ≡ Some place → handed ≡ handed_at lists place
 
@@ -26,8 +26,8 @@ pub refilled-handed_at : (lists : Lists) (refill : Option ℕ) (handed : CpuValu
 refilled-handed_at lists None handed g value is = refl
 refilled-handed_at lists (Some place) handed g value is = is place refl
 
--- if `handed` is the key and the generation that the refill of `e` hands over, then `e` changes the generator of the
--- state `s` into the generator of the state after `e`
+-- if `handed` is the key and the generation that the base hands over in the refill that `e` names, then `e` changes the
+-- generator with the state `s` and the key `value` into the generator with the state and the key after `e`
 pub after_entry-cpu_at : (lists : Lists) (c : ℕ) (s : CpuState) (value : List ℕ) (e : CpuEntry) (handed : CpuValue) →
     HandsRefill lists e handed → after_entry e handed (cpu_at s value) ≡ cpu_at (cpu_step lists.base c s e)
     (cpu_value_step lists value e)

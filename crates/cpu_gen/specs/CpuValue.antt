@@ -24,13 +24,14 @@ erased c = record c { key = keystream c.key 0 32 }
 abbrev pub prepared : CpuValue → CpuValue
 prepared c = record c { generation = 0 }
 
--- the generator after the named refill: the key and generation that the base handed over, or no change if the entry
--- names none
+-- the generator after the refill that an entry names: it has the key and the generation that the base handed over. If
+-- the entry names no refill, the generator does not change
 abbrev pub refilled : Option ℕ → CpuValue → CpuValue → CpuValue
 refilled None handed c = c
 refilled (Some place) handed c = handed
 
--- the generator after an entry, given the key and generation that the base handed over in the named refill
+-- the generator after an entry; `handed` has the key and the generation that the base handed over in the refill that
+-- the entry names, if it names one
 abbrev pub after_entry : CpuEntry → CpuValue → CpuValue → CpuValue
 after_entry (Read look refill taken) handed c = erased (refilled refill handed c)
 after_entry (Int look refill width true) handed c = erased (refilled refill handed c)
@@ -40,10 +41,10 @@ after_entry (Dump now) handed c = c
 after_entry Prepare handed c = prepared c
 after_entry Online handed c = c
 
--- the generator after a list, given the state after the list and the value of the key
+-- the generator after a list of entries: `s` is the state after the list, and `value` is the key
 abbrev pub cpu_at : CpuState → List ℕ → CpuValue
 cpu_at s value = record { key = value; generation = s.generation }
 
--- the generator of CPU c after all entries of its list
+-- the generator of CPU `c` after all entries of its list, `entries`
 abbrev pub after_entries : Lists → ℕ → List CpuEntry → CpuValue
 after_entries lists c entries = cpu_at (cpu_after lists.base c entries) (cpu_value_after lists entries)

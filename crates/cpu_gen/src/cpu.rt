@@ -34,7 +34,7 @@ impl Cpu {
         Cpu::with([0; 32], 0)
     }
 
-    /// A CPU with this key at this generation.
+    /// A CPU with the given key and generation.
     pub fn with(key: [u8; 32], generation: u64) -> Cpu
         ensures { result ≡ record { key = key; generation = generation } }
     {

@@ -8,6 +8,6 @@ negative_mod n c whole small pos low =
     let sum : n + c ≡ 4294967296 = omega arith in
     sym (add-mod_right n c) ∙ ap (λ m. m % c) sum
 
--- the value of a word is below the bound
+-- the value `c * r / 2^32` of the word `r` is below the bound `c`
 pub value_below : (c r : ℕ) → 0 < c → r < 4294967296 → c * r / 4294967296 < c
 value_below c r pos low = (div-lt_iff_lt-mul (lit< tt)).1 (mul-lt-mul_of_pos_left low pos)

@@ -14,7 +14,7 @@ all_more : (P : ℕ → Type 0) (rs : List ℕ) (r : ℕ) → AllByRecursion P r
 all_more P [] r a p = (p, a)
 all_more P (x ∷ rs) r a p = (a.0, all_more P rs r a.1 p)
 
--- the invariant of a draw while it rejects words
+-- the invariant of a draw below `c` that took the `n` words `rs` so far, and rejected all of them
 abbrev pub Rejects : {W : Type 0} → (W → ℕ → W → Type 0) → ℕ → W → List ℕ → W → ℕ → Type 0
 Rejects gives c w rs u n = (length rs ≡ n) × AllByRecursion (IsRejected c) rs × Takes gives w rs u
 

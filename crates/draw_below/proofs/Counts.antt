@@ -1,4 +1,4 @@
--- Each value has the same number of accepted words.
+-- Each value below the bound `c` has the same number of accepted words.
 --
 -- A word `r` is accepted and has the value `v` if `c * r` is at least `v * 2^32 + 2^32 % c` and below `(v + 1) * 2^32`.
 -- This range has `c * (2^32 / c)` numbers, and `2^32 / c` of these are multiples of `c`.

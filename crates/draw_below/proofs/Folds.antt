@@ -55,7 +55,7 @@ no_draw : (c : ℕ) → draws_in c 0 0 [] ≡ Some []
 unfolding draws_in
 no_draw c = refl
 
--- these answers, followed by the results of other draws
+-- the given answers, followed by the results of further draws
 pub following : List ℕ → Option (List (Option ℕ)) → Option (List (Option ℕ))
 following answers draws = option_map (λ more. map Some answers ++ more) draws
 
@@ -73,12 +73,12 @@ after_one_more answers answer (Some draws) =
     (sym (append_assoc (map Some answers) (Some answer ∷ []) draws)
     ∙ ap (λ l. l ++ draws) (sym (map-append Some answers (answer ∷ []))))
 
--- whatever words follow, the first `m` draws from these words have these answers
+-- whatever words follow, the first `m` draws below `c` take exactly `words` and have the answers `answers`
 abbrev pub Answered : ℕ → ℕ → List ℕ → List ℕ → Type 0
 Answered c m words answers =
     (n : ℕ) (rest : List ℕ) → draws_in c (m + n) 0 (words ++ rest) ≡ following answers (draws_in c n 0 rest)
 
--- from `w` to `u` the source gave some words, and `m` draws from these words have these answers
+-- from `w` to `u` the source gave some words, and `m` draws below `c` from these words have the answers `answers`
 abbrev pub IsAnswered : {W : Type 0} → (W → ℕ → W → Type 0) → ℕ → W → W → ℕ → List ℕ → Type 0
 IsAnswered gives c w u m answers =
     (words : List ℕ) × Takes gives w words u × (length answers ≡ m) × Answered c m words answers
@@ -111,7 +111,7 @@ one_answered gives c w u v m answers rejected answer more had draw is =
           ∙ ap (λ l. following l (draws_in c n 0 rest)) (sym is),
     )
 
--- if all draws were answered, the words that they took give exactly these answers
+-- if all `count` draws were answered, `draws_in` computes exactly `answers` from the words that they took
 pub all_answered : {W : Type 0} (gives : W → ℕ → W → Type 0) (c : ℕ) (w u : W) (m count : ℕ) (answers : List ℕ) →
     m ≡ count → IsAnswered gives c w u m answers →
     (taken : List ℕ) × Takes gives w taken u × (draws_in c count 0 taken ≡ Some (map Some answers ++ []))
@@ -123,7 +123,8 @@ all_answered gives c w u m count answers all had = (
       ∙ ap (λ l. draws_in c (m + 0) 0 l) (sym (append-nil had.0)) ∙ had.3 0 [] ∙ ap (following answers) (no_draw c),
 )
 
--- if `m` draws were answered and the next draw was spent, the words taken so far give these answers, and then `None`
+-- if `m` draws were answered and the next draw was spent (it rejected 128 words), `draws_in` computes `answers` and
+-- then `None` from all words taken
 pub then_spent : {W : Type 0} (gives : W → ℕ → W → Type 0) (c : ℕ) (w u v : W) (m count : ℕ) (answers : List ℕ)
     (rejected : List ℕ) → m < count → IsAnswered gives c w u m answers → Spends gives c u rejected v →
     (taken : List ℕ) × Takes gives w taken v × (draws_in c count 0 taken ≡ Some (map Some answers ++ None ∷ []))

@@ -1,5 +1,5 @@
--- If words come out of the lanes, the source keeps its lanes, pass and setting, and each word comes from a call of
--- that pass.
+-- While draws take words from the core, the source of the words keeps its lanes, pass and setting, and each word comes
+-- from a call of that pass.
 use Rattle.std.proofs.Common.{ℕ, List, [], ◌∷◌, refl, ap, ◌∙◌, subst}
 use Rattle.lane_table.specs.Calls.{view}
 use Rattle.rng_core.specs.declared.setting.Setting.{Setting}

@@ -1,4 +1,5 @@
--- Different lists of draws lead to different orders of different items, and each such order has a list of draws.
+-- A shuffle of different items: different lists of draws lead to different orders, and each order comes from some list
+-- of draws.
 use Rattle.std.proofs.Common.{◌≡◌, ◌<◌, ◌≤◌, ◌-◌, ℕ, zero, suc, List, [], ◌∷◌, length, get_or, refl, ap, sym, ◌∙◌, subst, arith, ⊎_elim}
 use Rattle.std.specs.List.{swap}
 use Rattle.std.specs.List.Sorted.{IsPermutation}
@@ -20,7 +21,7 @@ different_swap xs a b p q apart i j h k same =
     (sym (get_moved xs a b i p q) ∙ same ∙ get_moved xs a b j p q) in
     sym (moved_back a b i) ∙ ap (moved a b) one ∙ moved_back a b j
 
--- the items at places above `last` do not change
+-- the exchanges that the draws `ds` make from the place `last` down do not change the items at places above `last`
 untouched : (last : ℕ) (ds xs : List ℕ) (k : ℕ) → last < k → k < length xs → AreDraws last ds →
     get_or (exchanged last ds xs) k 0 ≡ get_or xs k 0
 untouched last [] xs k above low drawn = refl
@@ -39,7 +40,8 @@ last_item last d ds xs some low drawn =
     ∙ get_moved xs last d last low (omega (arith, drawn.0))
     ∙ ap (λ m. get_or xs m 0) (moved_first last d)
 
--- if two lists of draws turn different items into the same order, the lists are equal
+-- if all items of `xs` are different, and the draws `ds` turn `xs` into the same order as the draws `es`, then `ds` and
+-- `es` are equal
 one_list : (last : ℕ) (xs ds es : List ℕ) → AreDifferent xs → last < length xs → length ds ≤ last →
     length ds ≡ length es → AreDraws last ds → AreDraws last es → exchanged last ds xs ≡ exchanged last es xs → ds ≡ es
 one_list last xs [] [] apart low short n p q same = refl
@@ -63,11 +65,12 @@ one_list last xs (d ∷ ds) (e ∷ es) apart low short n p q same =
 abbrev Covers : List ℕ → List ℕ → Type 0
 Covers xs ys = (k : ℕ) → k < length ys → (p : ℕ) × (p < length xs) × (get_or xs p 0 ≡ get_or ys k 0)
 
--- the two lists have the same items above the place `last`
+-- `xs` and `ys` have the same items at the places above `last`
 abbrev AgreeAfter : ℕ → List ℕ → List ℕ → Type 0
 AgreeAfter last xs ys = (k : ℕ) → last < k → k < length xs → get_or xs k 0 ≡ get_or ys k 0
 
--- if the lists have the same items above `last`, the item of `ys` at `last` is in `xs`, at `last` or at a lower place
+-- if `xs` has all items of `ys`, and both have the same items above `last`, then the item of `ys` at `last` is in `xs`,
+-- at `last` or at a lower place
 place_of : (last : ℕ) (xs ys : List ℕ) → last < length xs → length xs ≡ length ys → AreDifferent ys → Covers xs ys →
     AgreeAfter last xs ys → (p : ℕ) × (p ≤ last) × (get_or xs p 0 ≡ get_or ys last 0)
 place_of last xs ys low n apart covers agree =
@@ -124,7 +127,7 @@ some_draws (suc last) xs ys low n apart covers agree =
       subst (λ z. exchanged z rest.0 swapped ≡ ys) before rest.3,
     )
 
--- if a list is not empty, and its items are different, each order of the list has a list of draws
+-- if `xs` is not empty, and all its items are different, some draws turn `xs` into its order `ys`
 ends : (xs ys : List ℕ) → 0 < length xs → AreDifferent xs → IsPermutation xs ys →
     (ds : List ℕ) × Makes xs ds ys
 ends xs ys some apart order =

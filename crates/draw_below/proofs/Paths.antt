@@ -28,7 +28,7 @@ use Rattle.draw_below.specs.Draws.{Takes}
 use Rattle.draw_below.specs.LaneWords.{ReadsWord}
 use Rattle.draw_below.specs.TableDraws.{AreTableWords, AreWordCalls, marks_of}
 
--- from `v` to `w` these words were read, each by its own call
+-- from `v` to `w` the words `words` were read, each by its own call
 record Reads (v w : View) (words : List ℕ) : Type 0 where
   calls : List (List Step)
   path : Path v w (marks_of calls)
@@ -63,7 +63,8 @@ reads_of v w (r ∷ rs) t =
       );
     }
 
--- a sample was added on a new table, and then words were read
+-- `p` is the view (what a pass knows and did) on a new table, `q` the view after a sample was added, and `w` the view
+-- after `words` were read
 module _ (set : Setting) (plain : set ≡ first_setting 0) (p q w : View) (words : List ℕ) (new : p ≡ start)
     (sampled : (steps : List Step)
     × Makes (IsOutcomeOf (setting_of set) (Add (range_with_len 0 32) 256) Done no_data) set (knowing p []) (knowing q steps))

@@ -31,7 +31,7 @@ exchanged_more last (e ∷ ds) d xs =
     exchanged_more (last - 1) ds d (swap xs last e)
     ∙ ap (λ n. swap (exchanged (last - 1) ds (swap xs last e)) n d) (omega arith)
 
--- for the bound 2 every word is accepted
+-- for the bound 2 every word is accepted, so a list `rs` of rejected words is empty
 none_rejected : (rs : List ℕ) → AllByRecursion (IsRejected 2) rs → rs ≡ []
 none_rejected [] all = refl
 none_rejected (r ∷ rs) all = absurd (true≢false (sym (leb-zero (2 * r % 4294967296)) ∙ all.0))

@@ -27,7 +27,7 @@ EachValueIsAsLikely = (c v : ℕ) → v < c → c < 2 ^ 32 → count c v (2 ^ 32
 abbrev pub IsRejected : ℕ → ℕ → Type 0
 IsRejected c r = accepts c r ≡ false
 
--- the source `w` gave exactly these words, in order, and is `u` after them
+-- the source `w` gave exactly the given words, in order, and is `u` after them
 abbrev pub Takes : {W : Type 0} → (W → ℕ → W → Type 0) → W → List ℕ → W → Type 0
 Takes gives w [] u = w ≡ u
 Takes {W} gives w (r ∷ rs) u = (v : W) × gives w r v × Takes gives v rs u
@@ -49,12 +49,12 @@ pub record Spends {W : Type 0} (gives : W → ℕ → W → Type 0) (c : ℕ) (w
   pub rejects : AllByRecursion (IsRejected c) rejected
   pub takes : Takes gives w rejected u
 
--- a draw below `c` ended with this result
+-- a draw below `c` ended with the given result
 abbrev pub IsDraw : {W : Type 0} → (W → ℕ → W → Type 0) → ℕ → W → List ℕ → Result ℕ DrawSpent → W → Type 0
 IsDraw gives c w rejected (Ok answer) u = Draws gives c w rejected answer u
 IsDraw gives c w rejected (Err spent) u = Spends gives c w rejected u
 
--- a draw among the `n` numbers from `lo` on ended with this result; the draw's bound is `n`, or 0 if `n` is 2^32
+-- a draw among the `n` numbers from `lo` on ended with the given result; the draw's bound is `n`, or 0 if `n` is 2^32
 abbrev pub IsDrawFrom : {W : Type 0} → (W → ℕ → W → Type 0) → ℕ → ℕ → W → List ℕ → Result ℕ DrawSpent → W → Type 0
 IsDrawFrom gives lo n w rejected (Ok answer) u =
     (lo ≤ answer) × (answer < lo + n) × Draws gives (n % 2 ^ 32) w rejected (answer - lo) u

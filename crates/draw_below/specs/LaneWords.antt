@@ -26,7 +26,7 @@ pub record SameSource (before after : LaneWords) : Type 0 where
   pub pass : after.pass.ghost_name ≡ before.pass.ghost_name
   pub set : after.set ≡ before.set
 
--- from `before` to `after` the source read this word from the core, and stayed the same source
+-- from `before` to `after` the source read `word` from the core, and kept its lanes, pass and setting
 abbrev pub GivesInt : LaneWords → ℕ → LaneWords → Type 0
 GivesInt before word after =
     ReadsWord before.set (view before.pass.now) word (view after.pass.now) × SameSource before after

@@ -16,7 +16,7 @@ abbrev pub AreDraws : ℕ → List ℕ → Type 0
 AreDraws last [] = Unit {0}
 AreDraws last (d ∷ ds) = (d ≤ last) × AreDraws (last - 1) ds
 
--- from `w` to `u` these numbers were drawn for the places `last`, `last - 1` and so on
+-- while the source changed from `w` to `u`, the given numbers were drawn for the places `last`, `last - 1` and so on
 abbrev pub DrawsEach : {W : Type 0} → (W → ℕ → W → Type 0) → ℕ → W → List ℕ → W → Type 0
 DrawsEach gives last w [] u = w ≡ u
 DrawsEach {W} gives last w (d ∷ ds) u =
@@ -30,8 +30,8 @@ pub record Shuffles {W : Type 0} (gives : W → ℕ → W → Type 0) (before : 
   pub none_above : AreDraws (length before - 1) draws
   pub exchanges : after ≡ exchanged (length before - 1) draws before
 
--- the end of a shuffle. After success, each place but the first had a draw, and `rejected` is empty. Otherwise fewer
--- places had a draw, the next draw was spent, and `rejected` contains the words that this draw rejected
+-- how a shuffle ended. After success, each place but the first had a draw, and `rejected` is empty. Otherwise fewer
+-- places had a draw, the next draw was spent, and `rejected` contains the words that this spent draw rejected
 abbrev pub IsShuffle : {W : Type 0} → (W → ℕ → W → Type 0) → List ℕ → W → List ℕ → Result (Unit {0}) DrawSpent →
     List ℕ → W → Type 0
 IsShuffle gives before w rejected (Ok done) after u =
@@ -40,7 +40,7 @@ IsShuffle {W} gives before w rejected (Err spent) after u =
     (draws : List ℕ) × (length draws < length before - 1) × (v : W) × Shuffles gives before w draws after v
     × Spends gives (length before - length draws) v rejected u
 
--- no two items are the same
+-- no two items of `items` are the same
 abbrev pub AreDifferent : List ℕ → Type 0
 AreDifferent items =
     (i j : ℕ) → i < length items → j < length items → slice_index items i ≡ slice_index items j → i ≡ j
@@ -50,7 +50,7 @@ abbrev pub Makes : List ℕ → List ℕ → List ℕ → Type 0
 Makes before draws after = (length draws ≡ length before - 1) × AreDraws (length before - 1) draws
     × (exchanged (length before - 1) draws before ≡ after)
 
--- each order of different items has exactly one list of draws
+-- each order of different items comes from exactly one list of a shuffle's draws
 abbrev pub EachOrderHasItsDraws : Type 0
 EachOrderHasItsDraws = (items order : List ℕ) → AreDifferent items → IsPermutation items order →
     (draws : List ℕ) × Makes items draws order × ((others : List ℕ) → Makes items others order → others ≡ draws)

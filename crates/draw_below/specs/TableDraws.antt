@@ -16,8 +16,8 @@ use Rattle.rng_core.specs.Settings.{first_setting}
 use Rattle.draw_below.specs.Draws.{accepts, value_of}
 use Rattle.draw_below.specs.declared.table_draws.Drawn.{Drawn}
 
--- the results that follow if the current draw is spent: only `None`, since a spent draw is the last one. If a word is
--- left over, the function itself gives `None`
+-- the results if the current draw is spent (it rejected 128 words) and the given words are left: only `None`, since a
+-- spent draw is the last one. If a word is left, the function itself gives `None`
 abbrev pub spent_before : List ℕ → Option (List (Option ℕ))
 spent_before [] = Some (None ∷ [])
 spent_before (r ∷ rs) = None
@@ -32,12 +32,12 @@ draws_in c (suc n) tried (r ∷ rs) =
     if accepts c r then option_map (λ draws. Some (value_of c r) ∷ draws) (draws_in c n 0 rs)
     else (if tried == 127 then spent_before rs else draws_in c (suc n) (suc tried) rs)
 
--- the results of the draws: the answers in order, and then `None` if a draw was spent
+-- the results of the draws in `drawn`: the answers in order, and then `None` if a draw was spent (it rejected 128
+-- words)
 abbrev pub ends_of : Drawn → List (Option ℕ)
 ends_of drawn = map Some drawn.answers.items ++ (if drawn.spent then None ∷ [] else [])
 
--- in these lists, the steps are those of a call that read an integer of 4 bytes, and the word has these bytes, the
--- lowest first
+-- in `lists`, `steps` are those of a call that read an integer of 4 bytes, and `word` has these bytes, the lowest first
 pub record IsWordCall (lists : Lists) (word : ℕ) (steps : List Step) : Type 0 where
   pub bytes : List ℕ
   pub fulfils : IsOutcomeOf (setting_of (first_setting 0)) Int32 Done (bytes_or_none bytes) (effects_of lists steps)
@@ -50,7 +50,7 @@ AreWordCalls lists [] (steps ∷ calls) = ⊥
 AreWordCalls lists (word ∷ words) [] = ⊥
 AreWordCalls lists (word ∷ words) (steps ∷ calls) = IsWordCall lists word steps × AreWordCalls lists words calls
 
--- the visits of these calls, with the steps of each numbered from 0
+-- the marks of the given calls' visits, with the steps of each call numbered from 0
 abbrev pub marks_of : List (List Step) → List MarkBy
 marks_of calls = flat_map (marks_from 0 0 0) calls
 

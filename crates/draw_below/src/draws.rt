@@ -6,7 +6,7 @@ use crate::rejected::{MOST_REJECTED, Rejected};
 use crate::words::Words;
 use std::sync::Wait;
 
-/// The number of 32-bit words.
+/// How many different 32-bit words there are.
 const WORDS: u64 = 1 << 32;
 
 /// A draw rejected its first 128 words.

@@ -18,7 +18,7 @@ pub struct LaneWords<'a> {
 }
 
 impl<'a> LaneWords<'a> {
-    /// The words that this pass reads with this setting.
+    /// The source of the words that `pass` reads with the setting `set`.
     pub fn over(lanes: &'a Lanes, pass: &'a mut Pass, set: Setting) -> LaneWords<'a>
         requires has { HoldsLanes lanes.now set.caller [] pass.old }
         requires cpu { set.cpu < lanes.now.cpus }

@@ -8,7 +8,7 @@ pub fn each_value_is_as_likely()
     ensures { EachValueIsAsLikely }
 {}
 
-/// Each order of different items has exactly one list of a shuffle's draws.
+/// Each order of different items comes from exactly one list of a shuffle's draws.
 #[tactic(auto, using(crate::proofs::Orders::each_order_has_its_draws))]
 pub fn each_order_has_its_draws()
     ensures { EachOrderHasItsDraws }

@@ -34,14 +34,14 @@ impl Rejected {
         }
     }
 
-    /// The number of words.
+    /// The number of rejected words.
     pub fn len(&self) -> u32
         ensures { result ≡ length self.now }
     {
         self.len
     }
 
-    /// One of the words.
+    /// The rejected word with the index `i`.
     pub fn get(&self, i: u32) -> u32
         requires { i < length self.now }
         ensures { slice_get self.now i ≡ Some result }

@@ -9,7 +9,7 @@ pub trait Words {
     /// How a call of `next` relates the source before it, the word, and the source after it.
     ghost gives: { Self → ℕ → Self → Type 0 };
 
-    /// The next word.
+    /// Takes the next word.
     fn next<R: Wait>(&mut self, rt: &R) -> u32
         ensures { gives self.old result self.new };
 }
@@ -30,7 +30,7 @@ impl Model for ListWords {
 }
 
 impl ListWords {
-    /// The words of this list.
+    /// A source that gives the words of the list `words`.
     pub fn of(words: Vec<u32>) -> ListWords
         ensures { result ≡ words.items }
     {

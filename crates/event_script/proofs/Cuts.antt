@@ -34,7 +34,7 @@ at_place byte place text h =
 pub rest_of : {A : Type 0} (n : ℕ) (text : List A) → take (length text - n) (drop n text) ≡ drop n text
 rest_of n text = grind (arith, common_steps)
 
--- ---- too many fields
+-- ---- More fields than the event has: the fault is `UnknownWord`
 
 pub some_field : (text : List ℕ) → no_field (parts 32 text) ≡ Err UnknownWord
 some_field text = rw (first_part 32 text).is refl
@@ -45,7 +45,7 @@ more_than_one a text = rw (first_part 32 text).is refl
 pub more_than_two : (a b text : List ℕ) → two_fields (a ∷ b ∷ parts 32 text) ≡ Err UnknownWord
 more_than_two a b text = rw (first_part 32 text).is refl
 
--- if reading one field after the act fails, the `inside` line has the same fault
+-- if `last`, the text after the word of the act, is not one field, the `inside` line has the same fault `kind`
 pub act_fault : (point act last : List ℕ) (kind : FaultKind) → one_field (parts 32 last) ≡ Err kind
     → inside_of (point ∷ act ∷ parts 32 last) ≡ Err kind
 act_fault point act last kind e = let p = first_part 32 last in rw (p.is, rw p.is at e) refl

@@ -11,7 +11,7 @@ use Rattle.event_script.specs.declared.reader.ScriptReader.{ScriptReader}
 use Rattle.event_script.specs.declared.whole.stage.ScriptStage.{ScriptStage}
 use Rattle.event_script.proofs.WholeLines.{cut_joins, no_lines, rest_is_whole}
 
--- ---- whole lines
+-- ---- A reader that reads whole lines
 
 pub none_read : (text lines more : List ℕ) (r : ScriptReader) → IsWhole lines → parts 10 lines ≡ lines ∷ []
     → IsAfter text r (lines ++ more) → IsAfter text r more
@@ -22,8 +22,8 @@ after_is_whole lines end b whole cut =
     rest_is_whole lines whole (omega (arith, ap length (cut_joins lines end b cut), length-append end (10 ∷ b))) b
     (sym (ap following cut))
 
--- if `lines` is `end`, a line feed and `b`, then `rest` and `end` make a whole line, and `b` and `more` follow this
--- line
+-- if `lines` is `end`, a line feed and `b`, then `rest`, `lines` and `more` are the line `rest ++ end`, its line feed,
+-- `b` and `more`
 regroup : (rest lines end b more : List ℕ) → lines ≡ end ++ 10 ∷ b
     → rest ++ (lines ++ more) ≡ ((rest ++ end) ++ 10 ∷ []) ++ (b ++ more)
 regroup rest lines end b more is =
@@ -32,8 +32,8 @@ regroup rest lines end b more is =
     ∙ sym (append_assoc rest end (10 ∷ (b ++ more)))
     ∙ sym (append_assoc (rest ++ end) (10 ∷ []) (b ++ more))
 
--- if a reader keeps the start of a line, and then reads the end of that line and further whole lines, only `more` is
--- unread
+-- if the reader `r` keeps the start of a line, and then reads `lines` (`end`, which completes that line, a line feed,
+-- and the whole lines `b`), only `more` is unread
 pub lines_read : (text lines end b more line : List ℕ) (r next : ScriptReader) (mid : ScriptStage)
     → parts 10 lines ≡ end ∷ parts 10 b → line ≡ (r.rest.items ++ end) ++ 10 ∷ [] → next.rest.items ≡ []
     → LeadsTo r.stage line mid [] → LeadsTo mid b next.stage []
@@ -81,7 +81,7 @@ no_front (b ∷ front) (x ∷ more) is clean =
     no_front front more (let rest : front ≡ more ++ 10 ∷ [] = cc in rest)
     (All-tail (λ x. (x == 10) ≡ false) b front clean)
 
--- if the piece ends with a line feed, no incomplete line is left after its whole lines
+-- if the piece `lines ++ front` ends with a line feed and `front` has none, then `front` is empty and `lines` is not
 pub ends_line : (lines front more : List ℕ) → lines ++ front ≡ more ++ 10 ∷ [] → Lacks 10 front
     → (front ≡ []) × (0 < length lines)
 ends_line [] front more is clean = absurd (no_front front more is clean)
@@ -92,7 +92,7 @@ ends_line (b ∷ lines) front (x ∷ more) is clean =
     let rest : lines ++ front ≡ more ++ 10 ∷ [] = cc in
     ((ends_line lines front more rest clean).0, omega arith)
 
--- ---- how long the text is
+-- ---- The limit of 16,777,216 bytes on a text
 
 pub not_too_long : (text : List ℕ) (r : ScriptReader) → HasFed text r → r.len ≤ 16777216 → length text ≤ 16777216
 not_too_long text r fed few = elim (cases_lt 16777216 (length text)) [
@@ -112,9 +112,9 @@ is_over text piece r fed many = elim (cases_lt 16777216 (length text)) [
   | inr few ↦ omega (arith, many, fed.len (omega arith))
 ]
 
--- ---- one piece
+-- ---- The reader reads one more piece
 
--- if all of `text` was read, then `piece` is the unread part of `text ++ piece`
+-- if `r` has read all of `text`, then `piece` is the unread part of `text ++ piece`
 piece_begins : (text piece : List ℕ) (r : ScriptReader) → IsAfter text r [] → IsAfter (text ++ piece) r piece
 piece_begins text piece r at = record {
   same = λ later. ap (λ x. script_of_lines (parts 10 x)) (append_assoc text piece later) ∙ at.same (piece ++ later);
@@ -122,7 +122,8 @@ piece_begins text piece r at = record {
   number = omega (arith, at.number, length-append text piece);
 }
 
--- if the unread bytes have no line feed, and the reader appends them to its rest, no byte is unread after that
+-- if the unread bytes, `front`, have no line feed, and the reader appends them to its rest, no byte is unread after
+-- that
 front_kept : (text front : List ℕ) (r next : ScriptReader) → IsAfter text r front → Lacks 10 front → next.stage ≡ r.stage
     → next.rest.items ≡ r.rest.items ++ front → IsAfter text next []
 front_kept text front r next at clean same rest = record {
@@ -165,7 +166,7 @@ piece_read text piece lines front r begun read next fed short is clean stage res
           clean same kept;
     }
 
--- if the longer text is too long, HasFed requires only that the reader has counted more bytes than the limit
+-- if `text ++ piece` exceeds the limit of 16,777,216 bytes, `HasFed` requires only that the reader's count exceeds it
 pub too_long_now : (text piece : List ℕ) (r next : ScriptReader) → HasFed text r → 16777216 < length text + length piece
     → 16777216 < next.len → HasFed (text ++ piece) next
 too_long_now text piece r next fed many long =
@@ -176,7 +177,7 @@ too_long_now text piece r next fed many long =
       read = λ few. absurd (omega (arith, few, all));
     }
 
--- ---- the whole text
+-- ---- A text that exceeds the limit
 
 pub too_long : (text : List ℕ) (r : ScriptReader) → HasFed text r → 16777216 < r.len
     → script_of text ≡ Err (record { line = 0; kind = TooLong })

@@ -39,14 +39,14 @@ not_alone n ((b ∷ tail) ∷ []) not = refl
 not_alone n ([] ∷ next ∷ more) not = refl
 not_alone n ((b ∷ tail) ∷ next ∷ more) not = refl
 
--- if text follows the line `end`, the first line of that text has a fault
+-- if `text` comes after the line `end` and is not empty, the first line of `text` has a fault
 pub more_after : (n : ℕ) (text : List ℕ) → 0 < length text → nothing_after n (parts 10 text) ≡
     at_line n (line_of (parts 10 text) >>= λ line. Err UnknownWord)
 more_after n text some =
     not_alone n (parts 10 text) (λ e. omega
     (arith, ap length (sym (join_with_byte-slice_split 10 text) ∙ ap (join_with_byte 10) e)))
 
--- ---- the first line determines the whole
+-- ---- What the first line of a text decides for the script
 
 pub goes_on : (d later : Draft) (n : ℕ) (text rest : List ℕ) → after_first d (parts 10 text) ≡ Ok (GoesOn later)
     → parts 10 rest ≡ following (parts 10 text) → script_from d n (parts 10 text) ≡ script_from later (n + 1)

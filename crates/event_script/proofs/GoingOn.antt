@@ -1,4 +1,5 @@
--- How more text changes a draft. If no event forks, the script can end at once. Later lines only add events and blocks.
+-- How more text changes a draft (the script so far). If no event forks, the script can end at once. Later lines only
+-- add events and blocks.
 use Rattle.std.proofs.Common.{◌≡◌, ℕ, ◌+◌, ◌<◌, ◌≤◌, ◌==◌, ◌⊎◌, ltb, inl, inr, false, Some, None, Result, Ok, Err, List, [], ◌∷◌, ◌++◌, append_assoc, append-nil, length, refl, sym, ap, subst, ◌∙◌, arith}
 use Rattle.std.specs.List.{AllByRecursion, list_any}
 use Rattle.std.proofs.lemmas.Bool.{cases_Bool, le-ltb, ltb-false, ltb-true, or_from}
@@ -46,7 +47,7 @@ end_step d n none = rw none refl
 
 module _ (text : List ℕ) (d : Draft) (n : ℕ) (goes : GoesOnFrom text d n)
     (none : AllByRecursion ForkNone (blocks_of d)) where
-  -- the text and the line `end` after it are the script of the draft
+  -- `text` with the line `end` after it is the script of the draft `d`
   pub closes : script_of_lines (parts 10 (text ++ end_line)) ≡ Ok (script_of_draft d)
   closes = goes end_line ∙ end_step d n (no_block_from _ (blocks_of d) none)
 
@@ -100,7 +101,7 @@ pub ended_is : (text : List ℕ) (d : Draft) (n : ℕ) → EndsWith text d n →
     → IsScript (script_of_draft d) text
 ended_is text d n ends short = script_takes text (script_of_draft d) (ended_script text d n ends short)
 
--- ---- the text of a fault
+-- ---- A text with a fault
 
 pub faulty_text : (text : List ℕ) (fault : ScriptFault) → IsFaulty text fault → script_of text ≡ Err fault
 unfolding script_of
@@ -114,7 +115,7 @@ faulty_text text fault is =
 pub faulty_first : (text : List ℕ) (fault : ScriptFault) → IsFaulty text fault → first_fault text ≡ Some fault
 faulty_first text fault is = ap fault_in (faulty_text text fault is)
 
--- ---- a view of a draft
+-- ---- A view of a draft: what a reader shows of it
 
 none_done : (done : List (List Event)) → 0 ≡ length done → done ≡ []
 none_done [] is = refl
@@ -132,13 +133,14 @@ lone_view view d seen none forks = record {
 
 -- ---- later lines add to the blocks of a draft
 
--- The script begins with the blocks of the draft. The last of these may have more events, and more blocks may follow.
+-- The script `s` begins with the blocks of the draft `d`. In `s` the last of these blocks may have more events, `es`,
+-- and more blocks, `later`, may follow.
 pub record Begins (d : Draft) (s : Script) : Type 0 where
   pub es : List Event
   pub later : List (List Event)
   pub script : s ≡ script_with d es later
 
--- the next state: the draft with one more event, the draft with a new block, or the end
+-- `next` is the draft `d` with one more event, `d` with a new block, or the end of the script
 abbrev pub Follows : Draft → Next → Type 0
 Follows d next = ((e : Event) × (GoesOn (with_event d e) ≡ next)) ⊎ ((GoesOn (with_block d) ≡ next) ⊎ (Ends ≡ next))
 
@@ -217,7 +219,7 @@ from_begins d n (line ∷ more) s e =
     by_next_begins d n more s next.0 (follows d what.0 next.0 what.2) next.2
     (λ later e'. from_begins later (n + 1) more s e')
 
--- if the text with `more` after it is a script, the script begins with the draft
+-- if `d` is the draft after `text`, and `text ++ more` is the script `s`, then `s` begins with the blocks of `d`
 pub begins : (text more : List ℕ) (d : Draft) (n : ℕ) (s : Script) → GoesOnFrom text d n
     → script_of_lines (parts 10 (text ++ more)) ≡ Ok s → Begins d s
 begins text more d n s goes is = from_begins d n (parts 10 more) s (sym (goes more) ∙ is)
@@ -250,7 +252,7 @@ extended d later begun one =
       events = both.1;
     }
 
--- if the draft after `more` has one block and no forks, that draft only adds events to the draft before `more`
+-- if `later`, the draft after `more`, has one block and no forks, it only adds events to `d`, the draft before `more`
 pub extends : (text more : List ℕ) (d later : Draft) (n m : ℕ) → GoesOnFrom text d n
     → GoesOnFrom (text ++ more) later m → IsLone later → Extends d later
 extends text more d later n m goes goes_later lone =
@@ -259,13 +261,13 @@ extends text more d later n m goes goes_later lone =
     (begins text (more ++ end_line) d n (script_of_draft later) goes
     (ap (λ x. script_of_lines (parts 10 x)) (sym (append_assoc text more end_line)) ∙ is)) lone.first
 
--- if the added text ends the script, and the script has one block, the added text adds only events to the draft
+-- if `more` ends the script, and the script has one block, `more` adds only events to `d`, the draft before `more`
 pub extends_ended : (text more : List ℕ) (d later : Draft) (n m : ℕ) → GoesOnFrom text d n
     → EndsWith (text ++ more) later m → later.done ≡ [] → Extends d later
 extends_ended text more d later n m goes ends one =
     extended d later (begins text more d n (script_of_draft later) goes (ended_lines (text ++ more) later m ends)) one
 
--- if the later draft forks no caller, the earlier draft forks none either
+-- if `later` extends `d`, has one block and forks no caller, then `d` has one block and forks no caller
 pub was_lone : (d later : Draft) → Extends d later → IsLone later → IsLone d
 was_lone d later e lone = record {
   first = e.done;
@@ -320,7 +322,7 @@ same_script d other is =
     let both = same_last d.done other.done d.events other.events (ap (λ (s : Script). s.callers) is) in
     same_parts d other (ap (λ (s : Script). s.version) is) (ap (λ (s : Script). s.cpus) is) both.0 both.1
 
--- if the script can end with the draft of a text, the text has no other draft
+-- if `d` is a draft of `text`, and each caller that `d` forks has a block, then `text` has no other draft
 pub same_open : (text : List ℕ) (d other : Draft) (n m : ℕ) → GoesOnFrom text d n → GoesOnFrom text other m
     → has_orphan d ≡ false → other ≡ d
 same_open text d other n m goes goes_other none =

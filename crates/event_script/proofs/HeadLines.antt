@@ -1,4 +1,5 @@
--- If a script goes on from a draft right after a line of the head, that line is line 3, and the draft has no event.
+-- If a script goes on from a draft right after a line of the head (lines 1 to 3), that line is line 3, and the draft
+-- has no event.
 use Rattle.std.proofs.Common.{◌≡◌, ℕ, zero, suc, inl, inr, Result, Ok, Err, List, [], ◌∷◌, ◌++◌, append_assoc, refl, sym, ap, ◌∙◌}
 use Rattle.std.specs.List.{list_any}
 use Rattle.std.specs.Prelude.{codes, if◌then◌else◌}
@@ -18,7 +19,7 @@ use Rattle.event_script.specs.declared.whole.stage.ScriptStage.TheVariants.{Vers
 use Rattle.event_script.proofs.GoingOn.{same_draft, same_fault, same_number, unfinished}
 use Rattle.event_script.proofs.NextLine.{unknown}
 
--- ---- what a line of the head gives
+-- ---- The result of reading a line of the head
 
 abbrev fine : List ℕ → Result (List ℕ) FaultKind
 fine line = if list_any is_unprintable line then Err BadByte else Ok line
@@ -113,7 +114,7 @@ start_by : (head : Head) (line later : List ℕ)
     >>= λ start. script_from start 4 (parts 10 later)) ≡ goes (Start head) (line ∷ parts 10 later)
 start_by head line later = rw (first_part 10 later).is refl
 
--- ---- events can follow
+-- ---- After which line of the head events can follow
 
 -- the draft has no event, and the next line is line 4
 pub record IsFirst (version cpus : ℕ) (d : Draft) (n : ℕ) : Type 0 where
@@ -131,12 +132,12 @@ module _ (text line : List ℕ) (clean : Lacks 10 line) (d : Draft) (n : ℕ)
       ∙ ap (λ x. text ++ x) (append_assoc line (10 ∷ []) later)))
       ∙ follows later
 
-  -- line 1 does not complete the head
+  -- a script does not go on from a draft right after line 1: this line does not complete the head
   pub version_line : ((later : List ℕ) → script_of_lines (parts 10 (text ++ later)) ≡ goes Version (parts 10 later)) → ⊥
   version_line before = version_result d n (fine line >>= version_of)
       (λ later. version_by line later ∙ read Version before later)
 
-  -- line 2 does not complete the head
+  -- a script does not go on from a draft right after line 2: this line does not complete the head
   pub cpus_line : (version : ℕ)
       → ((later : List ℕ) → script_of_lines (parts 10 (text ++ later)) ≡ goes (Cpus version) (parts 10 later)) → ⊥
   cpus_line version before = cpus_result d n version (fine line >>= λ line. cpus_by version (parts 32 line))

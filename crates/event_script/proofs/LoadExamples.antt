@@ -1,4 +1,4 @@
--- The texts of small loads, computed.
+-- The text of a small load (a script that is generated from three numbers), computed by the prover.
 use Rattle.std.proofs.Common.{◌≡◌, ℕ, List, [], ◌∷◌, refl}
 use Rattle.std.specs.Prelude.{codes}
 use Rattle.std.specs.Fmt.{digits}
@@ -26,7 +26,7 @@ three_callers =
     ∷ codes "on 1" ∷ codes "kread 96" ∷ codes "int64" ∷ codes "irq 2 1" ∷ codes "caller 2" ∷ codes "on 2"
     ∷ codes "write 0000000000000000" ∷ codes "uread 13" ∷ codes "reseed" ∷ codes "end" ∷ []
 
--- with the greatest `start`, sums of `start` and other numbers exceed 2 ^ 32
+-- `start` has its greatest value here, so sums of `start` and other numbers exceed 2 ^ 32
 pub three_callers_take_turns : script_text (load_script 4294967295 3 3) ≡ lined three_callers
 unfolding digits encode_with
 three_callers_take_turns = refl

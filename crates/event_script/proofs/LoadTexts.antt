@@ -76,8 +76,8 @@ length-block_lines c (events ∷ callers) =
       sum_by-cons {X = List Event} length events callers,
     )
 
--- let a script have a version up to 3, and at most 64 CPUs, 64 callers and 65,536 events. If all events are short, its
--- text has at most 16,777,216 bytes
+-- if a script has a version up to 3, at most 64 CPUs, 64 callers and 65,536 events, and if all its events are short
+-- (`IsShort`), its text has at most 16,777,216 bytes
 pub text_len : (s : Script) → s.version ≤ 3 → s.cpus ≤ 64 → length s.callers ≤ 64 → sum_by length s.callers ≤ 65536 →
     AllByRecursion (AllByRecursion (λ e. IsShort (event_fields e))) s.callers → length (script_text s) ≤ 16777216
 text_len s version cpus few events short =

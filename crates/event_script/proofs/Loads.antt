@@ -19,7 +19,7 @@ use Rattle.key_names.proofs.Lists.Each.{each_append, each_weaker}
 use Rattle.event_script.specs.LoadScript.{call, calls, load_events, load_script, opening, read_len, turn}
 use Rattle.event_script.proofs.LoadTexts.{IsShort, text_len}
 
--- ---- lists that are made over numbers
+-- ---- Lists made by a function over consecutive numbers
 
 each_from : {A : Type 0} (P : A → Type 0) (f : ℕ → A) (from n : ℕ) → ((k : ℕ) → from ≤ k → k < from + n → P (f k)) →
     AllByRecursion P (map f (range_with_len from n))
@@ -42,10 +42,10 @@ sum_at_most f most (x ∷ xs) all =
     let rest : sum_by f xs ≤ most * length xs = sum_at_most f most xs all.1 in
     let here : f x ≤ most = all.0 in omega (arith, sum_by-cons f x xs)
 
--- ---- one event
+-- ---- One event of a load
 
--- a script with this many CPUs may have this event; the event reads little, its line is short, and it adds no waiting
--- act
+-- a script of version 1 with `cpus` CPUs may have `event`; the event reads at most 100 bytes, its line is short, and it
+-- adds no act that waits for a later `vread`
 pub record Light (cpus : ℕ) (event : Event) : Type 0 where
   pub range : InRange 1 cpus event
   pub acts : (waiting : ℕ) → acts_after waiting event ≤ waiting
@@ -170,7 +170,7 @@ light_events start callers count caller few among small =
           (λ k low high. light_call callers start caller k (omega arith) (omega arith)),
     )
 
--- ---- one caller
+-- ---- The events of one caller
 
 few_acts : (waiting : ℕ) (events : List Event) → waiting ≤ 8 →
     AllByRecursion (λ e. (w : ℕ) → acts_after w e ≤ w) events → FewActs waiting events
@@ -190,7 +190,7 @@ forks_none number (event ∷ events) all =
     let here = all.0.none number in
     sum_by-cons (λ e. cond (is_fork_of number e) 1 0) event events ∙ rw here (omega arith)
 
--- if `number` is not among the `n` numbers from `from` on, the forks of these numbers do not fork `number`
+-- if `number` is not among the `n` numbers from `from` on, the forks of those `n` callers do not fork caller `number`
 forks_others : (number from n : ℕ) → ((k : ℕ) → from ≤ k → k < from + n → k ≡ number → ⊥) →
     count_by (is_fork_of number) (map Fork (range_with_len from n)) ≡ 0
 forks_others number from zero others = refl
@@ -200,7 +200,7 @@ forks_others number from (suc n) others =
     sum_by-cons (λ e. cond (is_fork_of number e) 1 0) (Fork from) (map Fork (range_with_len (from + 1) n))
     ∙ rw (ne_eqb from number (others from (omega arith) (omega arith))) (omega arith)
 
--- if `number` is among the `n` numbers from `from` on, the forks of these numbers fork `number` once
+-- if `number` is among the `n` numbers from `from` on, the forks of those `n` callers fork caller `number` once
 forks_among : (number from n : ℕ) → from ≤ number → number < from + n →
     count_by (is_fork_of number) (map Fork (range_with_len from n)) ≡ 1
 forks_among number from zero low high = absurd (omega arith)
@@ -217,7 +217,7 @@ forks_among number from (suc n) low high =
           split ∙ rw (ne_eqb from number other) (omega arith)
     ]
 
--- after its opening, a caller has no event that forks
+-- after its opening events, a caller of a load has no event that forks
 calls_fork_none : (start caller count : ℕ) →
     AllByRecursion ForksNone (On caller ∷ map (call start caller) (range_with_len 0 count))
 calls_fork_none start caller count = (
@@ -225,7 +225,7 @@ calls_fork_none start caller count = (
   each_from ForksNone (call start caller) 0 count (λ k low high. call_forks_none start caller k),
 )
 
--- a caller's events fork a number as often as the caller's opening does
+-- all events of `caller` together fork `number` as often as its opening events do
 opening_forks : (start callers count caller number : ℕ) →
     count_by (is_fork_of number) (load_events start callers count caller) ≡ count_by (is_fork_of number)
     (opening callers caller)
@@ -255,7 +255,7 @@ length-load_events start callers count caller =
     let following = On caller ∷ map (call start caller) (range_with_len 0 count) in
     omega (arith, length-append (opening callers caller) following, length-map-range_with_len (call start caller) 0 count)
 
--- ---- all callers
+-- ---- The events of all callers
 
 above_from : (f : ℕ → List Event) (from n : ℕ) → ((k : ℕ) → AllByRecursion (IsForkAbove k) (f k)) →
     ForksAbove from (map f (range_with_len from n))
@@ -264,7 +264,7 @@ above_from f from (suc n) each =
     let next : from + 1 ≡ suc from = omega arith in
     (each from, subst (λ k. ForksAbove k (map f (range_with_len (from + 1) n))) next (above_from f (from + 1) n each))
 
--- callers other than caller 0 fork no caller
+-- if `from` is at least 1, the `n` callers from `from` on fork no caller
 later_fork_none : (start callers count from n number : ℕ) → 1 ≤ from →
     times_forked (map (load_events start callers count) (range_with_len from n)) number ≡ 0
 later_fork_none start callers count from n number later =
@@ -279,7 +279,8 @@ later_fork_none start callers count from n number later =
 forked_first : (number n : ℕ) → number ≡ 0 → ◌≡◌ {A = ℕ} (if nat_lt 0 number && nat_lt number n then 1 else 0) 0
 forked_first number n first = rw first refl
 
--- the opening of caller 0 forks each other caller's number once, and no other number
+-- with `others` callers besides caller 0, the opening of caller 0 forks each number from 1 to `others` once, and no
+-- other number
 opening_count : (number others : ℕ) →
     count_by (is_fork_of number) (opening (suc others) 0) ≡
     (if nat_lt 0 number && nat_lt number (suc others) then 1 else 0)

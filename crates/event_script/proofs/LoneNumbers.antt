@@ -22,7 +22,7 @@ pub two_are_read : (limit next a b : ℕ) (text first second : List ℕ) (make :
 two_are_read limit next a b text first second make wide cut is are =
     rw (cut, alone next b second wide are, ← is, ← are) refl
 
--- ---- too many fields
+-- ---- A field too many after the numbers: the fault is `UnknownWord`
 
 pub one_too_many : (limit : ℕ) (a b : List ℕ) (make : ℕ → Event)
     → unary (number limit) make (a ∷ parts 32 b) ≡ Err UnknownWord

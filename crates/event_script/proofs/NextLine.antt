@@ -16,7 +16,7 @@ use Rattle.event_script.specs.Progress.{EndsWith, FailsWith, ForkNone, GoesOnFro
 use Rattle.event_script.specs.Tally.{fork_in}
 use Rattle.event_script.proofs.GoingOn.{Follows, follows, lone_blocks, no_orphan_yet, one_block, same_fault, same_number, same_open, same_script, unfinished}
 
--- ---- the result of a line
+-- ---- The result of adding a line to a draft
 
 pub unknown : (d : Draft) (n : ℕ) → script_from d n (parts 10 (codes "x\n")) ≡ Err (record { line = n; kind = UnknownWord })
 unfolding script_from
@@ -51,7 +51,7 @@ faulty_result d n fault (Ok (GoesOn next)) fails =
     let kinds = ap (λ (f : ScriptFault). f.kind) (same_fault _ _ (one ∙ sym other)) in
     absurd cc
 
--- the line leads to a draft that more lines may follow
+-- the result `r` of a line is a draft, `next`, that more lines may follow
 pub record Continues (d : Draft) (r : Result Next FaultKind) : Type 0 where
   pub next : Draft
   pub is : r ≡ Ok (GoesOn next)
@@ -78,7 +78,7 @@ ended_result d later n m (Ok Ends) ends = (
 )
 ended_result d later n m (Ok (GoesOn next)) ends = let none = sym (unfinished next (n + 1)) ∙ ends [] in absurd cc
 
--- ---- an event
+-- ---- A line that adds an event
 
 same_next : (d later : Draft) → GoesOn d ≡ GoesOn later → d ≡ later
 same_next d later e = cc
@@ -89,7 +89,8 @@ lone_event d event lone none = record {
   forks = each_more (λ event. fork_in event ≡ None) d.events event lone.forks none;
 }
 
--- the line added an event to the draft
+-- the line `n`, the last of `text`, added `event` to the draft `d`. If `later` has no orphan (a forked caller without a
+-- block), it is the new draft.
 pub record AddsEvent (text : List ℕ) (d : Draft) (n : ℕ) (later : Draft) (m : ℕ) : Type 0 where
   pub event : Event
   pub goes : GoesOnFrom text (with_event d event) (n + 1)
@@ -124,7 +125,7 @@ module _ (text : List ℕ) (d : Draft) (n : ℕ) (later : Draft) (m : ℕ) (goes
       absurd (no_block (subst (λ x. GoesOnFrom text x (n + 1)) (sym (same_next (with_block d) next block)) goes))
   by_follows next goes (inr (inr ends)) = absurd cc
 
--- ---- one more line
+-- ---- A text with one more line
 
 module _ (text line : List ℕ) (d : Draft) (n : ℕ) (goes : GoesOnFrom text d n) (clean : Lacks 10 line) where
   read : (later : List ℕ) → script_of_lines (parts 10 ((text ++ (line ++ 10 ∷ [])) ++ later))

@@ -13,7 +13,7 @@ use Rattle.key_names.specs.Texts.ScriptFaults.{number_below}
 use Rattle.key_names.proofs.Script.Numbers.{IsNumber, IsNumber-decimal, number_again, number_good, number_none, number_takes, value_of_decimal}
 use Rattle.event_script.specs.ValueFronts.{BeginsDigits, EndsNumber, IsDigits, IsFront, NoFront}
 
--- ---- digits in sequence
+-- ---- Digits at the start of a text
 
 all_within : (k : ℕ) (digits other : List ℕ) → AllDigits 10 (take k (digits ++ other)) → k ≤ length (digits ++ other)
     → EndsNumber other → k ≤ length digits
@@ -45,7 +45,7 @@ module _ (text : List ℕ) (value len : ℕ) (so_far : BeginsDigits text value l
       (omega (arith, length-take len text)) in
       omega (arith, small, so_far.value_is)
 
-  -- a number at the start of the text has at least `len` digits
+  -- if the text is `n` in decimal and then `other`, which begins with no digit, then `n` has at least `len` digits
   digits_within : (n : ℕ) (other : List ℕ) → EndsNumber other → text ≡ decimal n ++ other → len ≤ length (decimal n)
   digits_within n other ends e =
       all_within len (decimal n) other (subst (λ (t : List ℕ). AllDigits 10 (take len t)) e so_far.digits)
@@ -129,7 +129,7 @@ module _ (most : ℕ) (text : List ℕ) (value len : ℕ) (wide : most < 2 ^ 64)
             (decimal_injective n value (omega arith) (omega arith) (sym same.0 ∙ is), same.1);
       }
 
--- ---- nothing after the number
+-- ---- A text that is a number and nothing else
 
 pub whole_number : (most n : ℕ) (text rest : List ℕ) → most < 2 ^ 64 → IsFront decimal (λ m. m ≤ most) text n rest
     → rest ≡ [] → Some n ≡ number_below (most + 1) text

@@ -1,4 +1,4 @@
--- Lines that are read in place, without a search for their ends.
+-- Lines that are read in one pass, without a search for their line feeds.
 use Rattle.std.proofs.Common.{◌≡◌, ℕ, ◌≤◌, false, Result, Ok, Err, List, ◌∷◌, ◌++◌, refl, sym, ap, ◌∙◌, append_assoc}
 use Rattle.std.proofs.lemmas.List.Elements.{All-from_recursion}
 use Rattle.key_names.specs.declared.events.Event.{Event}
@@ -16,7 +16,7 @@ use Rattle.event_script.specs.ShortLines.{IsShort, after_word}
 use Rattle.event_script.specs.declared.statements.short.NumberFields.TheVariants.{Two}
 use Rattle.event_script.proofs.FirstOfLines.{whole_line}
 
--- the first line of `text` spells this event, and `rest` is the lines after that line
+-- the first line of `text` spells `event`, and `rest` has the lines after the first
 pub record FrontSays (version cpus : ℕ) (event : Event) (text rest : List ℕ) : Type 0 where
   pub says : said_first version cpus (parts 10 text) ≡ Ok (SaysEvent event)
   pub rest_is : parts 10 rest ≡ following (parts 10 text)
@@ -39,13 +39,13 @@ front_says version cpus event word more text rest few range spelt there =
       rest_is = rw cut refl;
     }
 
--- if `f` gives `y` for what was found, then `f` and `g` in sequence give `g y`
+-- if `f` applied to `found` gives `y`, then `f` and then `g`, applied to `found`, give `g y`
 then_more : {X Y Z : Type 0} (found : Result X FaultKind) (f : X → Result Y FaultKind) (g : Y → Result Z FaultKind) (y : Y)
     → (found >>= f) ≡ Ok y → (found >>= λ x. f x >>= g) ≡ g y
 then_more (Ok x) f g y says = rw says refl
 then_more (Err kind) f g y says = absurd cc
 
--- if the first line is an interrupt, the draft gains the interrupt's event
+-- if the first line of `text` is `irq` with the numbers `v1` and `v2`, it adds this event to the draft `d`
 pub irq_adds : (d : Draft) (v1 v2 : ℕ) (text rest : List ℕ) → d.cpus ≤ 256 → IsShort words.Irq (Two v1 v2)
     → text ≡ word_text words.Irq ++ (after_word (Two v1 v2) ++ 10 ∷ rest)
     → (after_first d (parts 10 text) ≡ after d (SaysEvent (Irq v1 v2))) × (parts 10 rest ≡ following (parts 10 text))

@@ -39,7 +39,8 @@ no_word : (n : ℕ) (field : List ℕ) → length field ≡ n → AllByRecursion
     → None ≡ word_of field
 no_word n field is none = sym (word_of_length n field is ∙ none_of field (of_length n all_words) none)
 
--- a search among the words of the field's length finds the word that the field spells, or none if it spells no word
+-- if `found` is the result of a search among the words of the field's length `n`, it is the word that the field spells,
+-- or none if the field spells no word
 pub among : (n : ℕ) (field : List ℕ) (found : Option Word) → length field ≡ n → IsAmong n field found →
     found ≡ word_of field
 among n field None is none = no_word n field is none

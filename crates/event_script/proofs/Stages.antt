@@ -20,7 +20,7 @@ use Rattle.event_script.specs.declared.whole.stage.ScriptStage.TheVariants.{Vers
 use Rattle.event_script.proofs.FirstOfLines.{faults, goes_on, more_after, step_of}
 use Rattle.event_script.proofs.WholeLines.{line_stays, rest_is_whole, rest_stays}
 
--- ---- stages in sequence
+-- ---- Two stages of reading in sequence
 
 pub leads_on : (s t u : ScriptStage) (text rest last : List ℕ) → LeadsTo s text t rest → LeadsTo t rest u last
     → LeadsTo s text u last
@@ -62,7 +62,7 @@ module _ (text : List ℕ) (whole : IsWhole text) (some : 0 < length text) where
       (ap (λ r. r >>= after_line (draft_as draft)) (line_stays text whole some later) ∙ is)
   line_fails draft number Memory is = tt
 
-  -- if text follows the line `end`, the first line of that text has a fault
+  -- if `text` comes after the line `end`, the first line of `text` has a fault, whatever `later` is
   pub end_fails : (number : ℕ) (later : List ℕ) → nothing_after number (parts 10 (text ++ later))
       ≡ at_line number (line_of (parts 10 text) >>= λ line. Err UnknownWord)
   end_fails number later =
@@ -115,7 +115,7 @@ module _ (text : List ℕ) (whole : IsWhole text) (some : 0 < length text) where
       number = omega (arith, shorter);
     }
 
--- ---- the end of a text, in an incomplete line
+-- ---- A text that ends in an incomplete line
 
 module _ (front : List ℕ) (clean : Lacks 10 front) where
   cut_off : line_of (parts 10 front) ≡ Err Unfinished

@@ -1,4 +1,4 @@
--- How one more event or block changes the counts.
+-- How one more event or block changes a draft's counts: of events, bytes read, waiting acts and forked callers.
 use Rattle.std.proofs.Common.{◌≡◌, ℕ, ◌+◌, ◌<◌, ◌≤◌, ltb, leb, Bool, true, false, ◌||◌, inl, inr, Option, Some, None, List, [], ◌∷◌, ◌++◌, ◌-◌, drop, replicate, get_or, set, length, refl, sym, ap, ◌∙◌, arith}
 use Rattle.std.specs.List.{list_any}
 use Rattle.std.specs.Prelude.{count_by, fold, sum_by}
@@ -16,12 +16,13 @@ use Rattle.key_names.specs.Texts.ScriptFaults.{Draft, blocks_of, has_orphan, is_
 use Rattle.key_names.proofs.Script.Drafts.{forks_of, lengths, no_orphan, orphanless, reads, times_with, total_block, total_split}
 use Rattle.event_script.specs.Tally.{IsLight, Tallied, fork_in, is_over}
 
--- the flags of the forked callers, after an event that forks this child or none
+-- `forked` has one flag for each caller number, true if the caller was forked. `marked` is these flags after an event
+-- that forks the given child, or none
 abbrev pub marked : List Bool → Option ℕ → List Bool
 marked forked None = forked
 marked forked (Some child) = set forked child true
 
--- an event forks no number from 64 on
+-- an event in range forks no caller whose number is 64 or more
 none_high : (version cpus c : ℕ) (e : Event) → InRange version cpus e → 64 ≤ c → count_by (is_fork_of c) (e ∷ []) ≡ 0
 none_high version cpus c (Fork child) range high = rw (ne_eqb child c (λ same. omega (arith, range.1))) refl
 none_high version cpus c e range high = refl
@@ -47,7 +48,7 @@ length_marked : (forked : List Bool) (child : Option ℕ) → length (marked for
 length_marked forked None = refl
 length_marked forked (Some child) = length-set forked child true
 
--- if the counts are those of a draft, `is_over` gives whether one more event exceeds the limits of this draft
+-- if the counts are those of the draft `d`, `is_over` is true if and only if adding the event `e` exceeds a limit
 pub limits_are : (d : Draft) (e : Event) (count read acts : ℕ) (forked : List Bool) →
     Tallied (blocks_of d) d.events count read acts forked
     → is_over count (read + bytes_read e) (acts_after acts e) ≡ is_past_limits d e
@@ -100,7 +101,7 @@ tallied_block d count read acts forked t = record {
   waiting = omega arith;
 }
 
--- ---- orphans
+-- ---- Orphans: forked callers without a block
 
 no_flags : (d : Draft) (count read acts n : ℕ) (forked : List Bool) →
     Tallied (blocks_of d) d.events count read acts forked

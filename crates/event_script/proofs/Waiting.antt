@@ -1,5 +1,5 @@
--- If a reader waits at a line's end, the reader's stage shows that the head is incomplete, or that no room for `end` is
--- left.
+-- If a reader waits for more text after a whole line, its stage shows that the script's head is incomplete, or that the
+-- line `end` no longer fits.
 use Rattle.std.proofs.Common.{◌≡◌, ℕ, ◌+◌, ◌<◌, ◌≤◌, List, [], arith}
 use Rattle.event_script.specs.Drafts.{draft_as}
 use Rattle.event_script.specs.Feeding.{HasFed}

@@ -11,7 +11,7 @@ use Rattle.key_names.specs.Texts.ScriptFaults.{following, is_unprintable, line_o
 use Rattle.key_names.proofs.Script.Parts.{Lacks, first_part, parts_at}
 use Rattle.event_script.specs.Feeding.{IsWhole}
 
--- a text begins with a line, and goes on with whole lines
+-- the text is `line`, a line feed and `rest`; `line` has no line feed, and `rest` is whole lines
 pub record HasLine (text : List ℕ) : Type 0 where
   pub line : List ℕ
   pub rest : List ℕ
@@ -44,7 +44,7 @@ pub has_line : (text : List ℕ) → IsWhole text → 0 < length text → HasLin
 has_line text (inl none) some = absurd (omega (arith, ap length none))
 has_line text (inr front) some = subst HasLine (sym front.1) (first_whole front.0)
 
--- whatever follows, the parts of a text are its first line and then the parts of the rest
+-- whatever text `later` follows, the lines of the whole are the first line and then the lines of `rest` and `later`
 parts_of : (text later : List ℕ) (h : HasLine text) → parts 10 (text ++ later) ≡ h.line ∷ parts 10 (h.rest ++ later)
 parts_of text later h =
     ap (λ x. parts 10 (x ++ later)) h.is
@@ -74,13 +74,13 @@ module _ (text : List ℕ) (whole : IsWhole text) (some : 0 < length text) where
     pub rest_is_whole : IsWhole rest
     rest_is_whole = let h = has_line text whole some in subst IsWhole (sym (rest_is h)) h.whole
 
-    -- later text follows the rest after the first line
+    -- the lines after the first line of `text ++ later` are the lines of `rest` and then `later`
     pub rest_stays : (later : List ℕ) → following (parts 10 (text ++ later)) ≡ parts 10 (rest ++ later)
     rest_stays later =
         let h = has_line text whole some in
         ap following (parts_of text later h) ∙ ap (λ x. parts 10 (x ++ later)) (sym (rest_is h))
 
--- a text of whole lines is empty if it has no line end
+-- a text of whole lines is empty if it has no line feed
 pub no_lines : (text : List ℕ) → IsWhole text → parts 10 text ≡ text ∷ [] → text ≡ []
 no_lines text (inl none) one = none
 no_lines text (inr front) one =
@@ -91,7 +91,7 @@ no_lines text (inr front) one =
       ap length (first_part 10 (h.rest ++ [])).is,
     ))
 
--- a text is its first part, the separator and the rest
+-- if the first line of `text` is `line`, followed by `rest`, then `text` is `line`, a line feed and `rest`
 pub cut_joins : (text line rest : List ℕ) → parts 10 text ≡ line ∷ parts 10 rest → text ≡ line ++ 10 ∷ rest
 cut_joins text line rest cut =
     let two = (first_part 10 rest).is in

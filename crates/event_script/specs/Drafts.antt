@@ -1,4 +1,4 @@
--- The code's draft, as a draft of the definitions.
+-- The code's draft (a script that is still being read), as a draft of the definitions.
 use Rattle.std.specs.Prelude.{map}
 use Rattle.key_names.specs.Texts.ScriptFaults as faults
 use Rattle.event_script.specs.declared.whole.draft.Draft.{Draft}

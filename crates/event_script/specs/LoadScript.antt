@@ -6,7 +6,7 @@ use Rattle.key_names.specs.declared.events.Event.{Event}
 use Rattle.key_names.specs.declared.events.Event.TheVariants.{On, Write, Add, Irq, Read, Vread, Kread, Uread, Int64, Reseed, Fork}
 use Rattle.key_names.specs.Texts.ScriptGrammar.{Script}
 
--- the eight calls, with reads of `len` bytes
+-- one call of each of the eight kinds; the reads have `len` bytes
 abbrev pub calls : ℕ → ℕ → ℕ → List Event
 calls len caller number =
     Read len 0 ∷ Vread len 0 ∷ Kread len ∷ Int64 ∷ Irq number caller ∷ Write (to_le_bytes w64 number) ∷ Uread len
@@ -15,7 +15,7 @@ calls len caller number =
 abbrev pub read_len : ℕ → ℕ → ℕ
 read_len start number = 1 + (17 * number + start) % 100
 
--- the kind of the call with this number, as an index into `calls`
+-- the kind of the caller's call with the given number, as an index into `calls`
 abbrev pub turn : ℕ → ℕ → ℕ → ℕ
 turn start caller number = (start + 3 * caller + number) % 8
 
@@ -23,12 +23,12 @@ abbrev pub call : ℕ → ℕ → ℕ → Event
 call start caller number =
     slice_index_or (calls (read_len start number) caller number) (turn start caller number) Reseed
 
--- caller 0 first makes the core ready and forks all others; no other caller has an opening
+-- the opening events: caller 0 makes the core ready and forks all others; no other caller has opening events
 abbrev pub opening : ℕ → ℕ → List Event
 opening callers zero = Add (range_with_len 0 32) 256 ∷ map Fork (range_with_len 1 (callers - 1))
 opening callers (suc caller) = []
 
--- the events of one caller with `count` calls
+-- the events of `caller`, which makes `count` calls
 abbrev pub load_events : ℕ → ℕ → ℕ → ℕ → List Event
 load_events start callers count caller =
     opening callers caller ++ On caller ∷ map (call start caller) (range_with_len 0 count)

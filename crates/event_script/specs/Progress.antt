@@ -10,16 +10,16 @@ use Rattle.event_script.specs.declared.progress.DraftView.{DraftView}
 use Rattle.event_script.specs.declared.progress.ScriptProgress.{ScriptProgress}
 use Rattle.event_script.specs.declared.progress.ScriptProgress.TheVariants.{Waits, Open, Ended, Faulty}
 
--- whatever follows the text, the script goes on from this draft; `n` is the number of the next line
+-- whatever follows the text, the script goes on from the draft `d`; `n` is the number of the next line
 abbrev pub GoesOnFrom : List ℕ → Draft → ℕ → Type 0
 GoesOnFrom text d n = (later : List ℕ) → script_of_lines (parts 10 (text ++ later)) ≡ script_from d n (parts 10 later)
 
--- if nothing follows, the text is the script of this draft; if text follows, line `n` has a fault
+-- if nothing follows the text, its script is that of the draft `d`; if text follows, line `n` has a fault
 abbrev pub EndsWith : List ℕ → Draft → ℕ → Type 0
 EndsWith text d n = (later : List ℕ) → script_of_lines (parts 10 (text ++ later))
     ≡ (nothing_after n (parts 10 later) >>= λ none. Ok (script_of_draft d))
 
--- this is the text's first fault, whatever follows
+-- `fault` is the text's first fault, whatever follows the text
 abbrev pub FailsWith : List ℕ → ScriptFault → Type 0
 FailsWith text fault = (later : List ℕ) → script_of_lines (parts 10 (text ++ later)) ≡ Err fault
 
@@ -32,26 +32,26 @@ pub record IsViewOf (view : DraftView) (d : Draft) : Type 0 where
   pub events : view.events.now ≡ d.events
   pub orphan : view.has_orphan ≡ has_orphan d
 
--- the script goes on from the draft of this view, and the text has room for the line `end`
+-- after `text` the script goes on from the draft that `view` shows, and the line `end` still fits
 pub record IsOpen (text : List ℕ) (view : DraftView) : Type 0 where
   pub room : length text + 4 ≤ 16777216
   pub draft : Draft
   pub seen : IsViewOf view draft
   pub goes_on : GoesOnFrom text draft view.number
 
--- the script has ended with the draft of this view
+-- the script has ended with the last line of `text`, and `view` shows its draft
 pub record IsEnded (text : List ℕ) (view : DraftView) : Type 0 where
   pub short : length text ≤ 16777216
   pub draft : Draft
   pub seen : IsViewOf view draft
   pub ends : EndsWith text draft view.number
 
--- the text has this first fault, whatever follows
+-- `fault` is the first fault of `text`, whatever follows; it is `TooLong` if `text` exceeds 16,777,216 bytes
 pub record IsFaulty (text : List ℕ) (fault : ScriptFault) : Type 0 where
   pub short : length text ≤ 16777216 → FailsWith text fault
   pub long : 16777216 < length text → fault ≡ record { line = 0; kind = TooLong }
 
--- this progress is right for the text that was read so far
+-- the given progress is right for `text`, the text that was read so far
 abbrev pub IsProgress : List ℕ → ScriptProgress → Type 0
 IsProgress text Waits = ⊤
 IsProgress text (Open view) = IsOpen text view
@@ -67,7 +67,7 @@ pub record IsLone (d : Draft) : Type 0 where
   pub first : d.done ≡ []
   pub forks : ForkNone d.events
 
--- the line of a script's end
+-- the line `end`, which is the last of a script
 abbrev pub end_line : List ℕ
 end_line = codes "end\n"
 

@@ -1,4 +1,4 @@
--- The statement of a line, in the terms of the definitions.
+-- The statement of a line (an event, the start of a caller's block, or the end), in the terms of the definitions.
 use Rattle.std.specs.Prelude.{ℕ, List, Result}
 use Rattle.key_names.specs.declared.faults.FaultKind.{FaultKind}
 use Rattle.key_names.specs.Texts.ScriptFaults as faults
@@ -11,6 +11,6 @@ said_as (Event event) = faults.SaysEvent event
 said_as (Caller c) = faults.SaysCaller c
 said_as End = faults.SaysEnd
 
--- the statement of the first line, or its fault
+-- the statement of the first of the given lines, or that line's fault
 abbrev pub said_first : ℕ → ℕ → List (List ℕ) → Result faults.Said FaultKind
 said_first version cpus lines = line_of lines >>= said version cpus

@@ -8,7 +8,7 @@ use Rattle.event_script.specs.declared.script_error.ScriptError.{ScriptError}
 use Rattle.event_script.specs.declared.script_error.ScriptError.TheVariants.{Fault, NoMemory}
 use Rattle.event_script.specs.declared.script_error.Unread.{Unread}
 
--- the fault of a line, with the line's number
+-- the error of line `n`: its fault, with the line's number, or a lack of memory
 abbrev pub script_error : ℕ → LineError → ScriptError
 script_error n (Kind kind) = Fault (record { line = n; kind = kind })
 script_error n Memory = NoMemory
@@ -17,7 +17,8 @@ abbrev pub FailsAt : {Y : Type 0} → ScriptError → Result Y ScriptFault → T
 FailsAt (Fault fault) given = given ≡ Err fault
 FailsAt NoMemory given = ⊤
 
--- `view` maps the returned value to the given value; an error is the given fault, unless memory ran out
+-- a function's result agrees with `given`: `view` maps the returned value to the value of `given`, and a returned error
+-- is the fault of `given`, unless memory ran out
 abbrev pub GivesScript : {X Y : Type 0} → (X → Y) → Result X ScriptError → Result Y ScriptFault → Type 0
 GivesScript view (Ok x) given = given ≡ Ok (view x)
 GivesScript view (Err e) given = FailsAt e given
@@ -27,7 +28,8 @@ abbrev pub GivesUnread : {X Y : Type 0} → (X → Y) → Result X Unread → Re
 GivesUnread view (Ok x) given = given ≡ Ok (view x)
 GivesUnread view (Err unread) given = FailsAt unread.error given
 
--- the next state: if the flag is true, the draft goes on with more lines; if it is false, the script has ended
+-- the state after a line: if the flag is true, more lines may follow the draft `d`; if it is false, the script has
+-- ended
 abbrev pub next_as : Bool → Draft → Next
 next_as true d = GoesOn d
 next_as false d = Ends

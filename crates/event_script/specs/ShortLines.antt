@@ -1,4 +1,4 @@
--- Lines of a word and at most two numbers.
+-- Script lines that are a word and at most two numbers.
 use Rattle.std.specs.Prelude.{ℕ, ◌^◌, ◌<◌, ◌≤◌, ⊤, List, [], ◌∷◌, ◌++◌}
 use Rattle.std.specs.Fmt.{decimal}
 use Rattle.key_names.specs.declared.events.Word.{Word}
@@ -6,13 +6,13 @@ use Rattle.key_names.specs.declared.events.Word.TheVariants.{At, Credit, Bits, I
 use Rattle.event_script.specs.declared.statements.short.NumberFields.{NumberFields}
 use Rattle.event_script.specs.declared.statements.short.NumberFields.TheVariants.{None, One, Two}
 
--- the bytes between a word and the line end
+-- the bytes between a word and the line feed, if the given numbers follow the word
 abbrev pub after_word : NumberFields → List ℕ
 after_word None = []
 after_word (One a) = 32 ∷ decimal a
 after_word (Two a b) = 32 ∷ (decimal a ++ 32 ∷ decimal b)
 
--- in every version and with any number of CPUs, an event has this word and these numbers
+-- in every version and with any number of CPUs, some event has the given word and numbers
 abbrev pub IsShort : Word → NumberFields → Type 0
 IsShort Bits None = ⊤
 IsShort Int8 None = ⊤

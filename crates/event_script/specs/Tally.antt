@@ -1,11 +1,11 @@
--- The counts of the events so far.
+-- The counts over the events of a draft: events, bytes read, waiting acts and forked callers.
 use Rattle.std.specs.Prelude.{◌≡◌, ℕ, ◌<◌, ◌≤◌, Bool, false, ◌||◌, nat_le, nat_lt, Option, Some, None, List, [], ◌∷◌, ◌++◌, fold, length, map, slice_index_or, sum_by}
 use Rattle.std.specs.Global.{Vec}
 use Rattle.key_names.specs.declared.events.Event.{Event}
 use Rattle.key_names.specs.declared.events.Event.TheVariants.{Fork}
 use Rattle.key_names.specs.Texts.ScriptGrammar.{acts_after, bytes_read, times_forked}
 
--- the finished blocks, and the last one
+-- all blocks of a draft: the finished ones and then the last one, `events`
 abbrev pub blocks_in : List (Vec Event) → List Event → List (List Event)
 blocks_in done events = map (λ block. block.items) done ++ events ∷ []
 
@@ -13,7 +13,7 @@ abbrev pub fork_in : Event → Option ℕ
 fork_in (Fork child) = Some child
 fork_in _ = None
 
--- an event reads nothing, forks no caller and leaves the number of waiting acts as it is
+-- `event` reads nothing, forks no caller and leaves the number of acts that wait for a `vread` as it is
 pub record IsLight (event : Event) : Type 0 where
   pub unread : bytes_read event ≡ 0
   pub unforked : fork_in event ≡ None

@@ -1,4 +1,4 @@
--- The answer of a function, compared with the definitions.
+-- The result of a function, compared with a result of the definitions.
 use Rattle.std.specs.Prelude.{◌≡◌, ℕ, ⊤, List, [], Option, Some, None, Result, Ok, Err}
 use Rattle.std.specs.Borrow.{Bor}
 use Rattle.key_names.specs.declared.faults.FaultKind.{FaultKind}
@@ -6,7 +6,8 @@ use Rattle.key_names.specs.Texts.ScriptFaults.{parts}
 use Rattle.event_script.specs.declared.whole.error.LineError.{LineError}
 use Rattle.event_script.specs.declared.whole.error.LineError.TheVariants.{Memory, Kind}
 
--- `view` maps the returned value to the given value, or the returned fault is the given fault
+-- a function's result agrees with `given`: `view` maps the returned value to the value of `given`, or both are the same
+-- fault
 abbrev pub Tells : {X Y : Type 0} → (X → Y) → Result X FaultKind → Result Y FaultKind → Type 0
 Tells view (Ok x) given = given ≡ Ok (view x)
 Tells view (Err kind) given = given ≡ Err kind
@@ -15,7 +16,8 @@ abbrev pub Fails : {Y : Type 0} → LineError → Result Y FaultKind → Type 0
 Fails Memory given = ⊤
 Fails (Kind kind) given = given ≡ Err kind
 
--- `view` maps the returned value to the given value; an error is the given fault, unless memory ran out
+-- a function's result agrees with `given`: `view` maps the returned value to the value of `given`, and a returned error
+-- is the fault of `given`, unless memory ran out
 abbrev pub Gives : {X Y : Type 0} → (X → Y) → Result X LineError → Result Y FaultKind → Type 0
 Gives view (Ok x) given = given ≡ Ok (view x)
 Gives view (Err e) given = Fails e given

@@ -6,7 +6,7 @@ use Rattle.event_script.specs.Progress.{GoesOnFrom}
 use Rattle.event_script.specs.declared.whole.stage.ScriptStage.{ScriptStage}
 use Rattle.event_script.specs.declared.whole.stage.ScriptStage.TheVariants.{Version, Cpus, Start, Lines, Ended, Faulty}
 
--- a line of a script's head comes next
+-- at the given stage, a line of the script's head comes next
 abbrev pub IsHead : ScriptStage → Type 0
 IsHead Version = ⊤
 IsHead (Cpus version) = ⊤

@@ -8,7 +8,7 @@ ghost use Rattle.event_script.specs.LoadScript.{call, load_events, opening, read
 use key_names::{Event, Text};
 use std::alloc::{AllocError, Global};
 
-/// The bytes that make the core ready.
+/// The bytes that caller 0 adds, with `SEED_BITS` bits of credit, to make the core ready.
 const SEED: [u8; 32] = [
     0, 1, 2, 3, 4, 5, 6, 7, 8, 9, 10, 11, 12, 13, 14, 15, 16, 17, 18, 19, 20, 21, 22, 23, 24, 25,
     26, 27, 28, 29, 30, 31,

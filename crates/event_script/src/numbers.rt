@@ -24,7 +24,8 @@ fn ends_number(text: &[u8]) -> bool
     }
 }
 
-/// The number that a text begins with, and the text after it. Exactly `len` digits begin the text; they spell `value`.
+/// The number at the start of a text, if it is at most `most`, and the text after it. The text begins with exactly
+/// `len` digits, which spell `value`.
 #[inline(always)]
 fn cut_number(most: u64, value: u64, len: usize, text: &[u8]) -> Option<(u64, &[u8])>
     requires { IsDigits text.now value len }
@@ -136,7 +137,7 @@ pub fn number_up_to(most: u64, field: &[u8]) -> Option<u64>
     }
 }
 
-/// The number that a field spells, at most `most`.
+/// The number that a field spells, if it is at most `most`.
 pub(crate) fn number(most: u64, field: &[u8]) -> Result<u64, FaultKind>
     ensures value { Tells (λ n. n) result (number (most + 1) field.now) }
     ensures range { IfOk result (λ n. n ≤ most) }
@@ -147,7 +148,7 @@ pub(crate) fn number(most: u64, field: &[u8]) -> Result<u64, FaultKind>
     }
 }
 
-/// The number that a field spells, from `least` to `most`.
+/// The number that a field spells, if it is from `least` to `most`.
 pub(crate) fn number_from(least: u64, most: u64, field: &[u8]) -> Result<u64, FaultKind>
     ensures value { Tells (λ n. n) result (number_in least (most + 1) field.now) }
     ensures range { IfOk result (λ n. n ≤ most) }
@@ -159,7 +160,7 @@ pub(crate) fn number_from(least: u64, most: u64, field: &[u8]) -> Result<u64, Fa
     Ok(value)
 }
 
-/// The only number after a word, at most `most`.
+/// The number after a word, if it is the only field and at most `most`.
 pub(crate) fn one_number(most: u64, rest: Option<&[u8]>) -> Result<u64, FaultKind>
     ensures value { (make : ℕ → Event) → Tells make result (unary (number (most + 1)) make (fields_of rest.entry)) }
     ensures range { IfOk result (λ n. n ≤ most) }
@@ -176,7 +177,7 @@ pub(crate) fn one_number(most: u64, rest: Option<&[u8]>) -> Result<u64, FaultKin
     }
 }
 
-/// The only number after a word, below `limit`.
+/// The number after a word, if it is the only field and below `limit`.
 pub(crate) fn one_below(limit: u32, rest: Option<&[u8]>) -> Result<u32, FaultKind>
     requires { 0 < limit }
     ensures value { (make : ℕ → Event) → Tells make result (unary (number limit) make (fields_of rest.entry)) }
@@ -186,7 +187,8 @@ pub(crate) fn one_below(limit: u32, rest: Option<&[u8]>) -> Result<u32, FaultKin
     Ok(value as u32)
 }
 
-/// The two numbers after a word. The first is at most `most`, the second at most `next`.
+/// The two numbers after a word, if they are the only fields, the first is at most `most` and the second at most
+/// `next`.
 pub(crate) fn two_numbers(
     most: u64,
     next: u64,

@@ -31,7 +31,7 @@ pub struct ScriptReader {
     stage: ScriptStage,
     // The number of bytes that were fed so far.
     len: usize,
-    // The start of a line whose end was not read yet.
+    // The start of a line whose line feed was not read yet.
     rest: Vec<u8>,
 }
 
@@ -127,7 +127,7 @@ impl ScriptReader {
         }
     }
 
-    /// The script of the whole text, as a draft: the last block is still separate from the finished ones.
+    /// The script of the whole text that was fed, as a draft: the last block is still separate from the finished ones.
     pub(crate) fn into_draft(self) -> Result<Draft, Unread>
         requires { (text : List ℕ) × HasFed text self }
         ensures { (text : List ℕ) → HasFed text self

@@ -1,4 +1,4 @@
-//! Scripts.
+//! A whole script, and the functions that read one.
 ghost use Rattle.std.specs.Prelude.{◌≡◌, ◌<◌, ◌≤◌, ℕ, List, IfErr, IfOk, IsErr, length, take};
 ghost use Rattle.key_names.specs.declared.faults.ScriptFault.{ScriptFault};
 ghost use Rattle.key_names.specs.Texts.ScriptGrammar.{IsScript, Script as Spelt};

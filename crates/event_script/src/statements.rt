@@ -1,4 +1,4 @@
-//! One line of a script: its words, its fields, and the event that they give.
+//! One line of a script: its word, its fields, and the event that they spell.
 
 pub(crate) mod acts;
 pub(crate) mod amounts;

@@ -1,4 +1,4 @@
-//! A whole script: its lines in sequence, the script that they give so far, and the first fault.
+//! A whole script: its lines in sequence, the script that the lines read so far give, and the first fault.
 
 pub(crate) mod draft;
 pub(crate) mod error;

@@ -10,7 +10,7 @@ use Rattle.transcript_check.specs.Judged.{IsSound}
 use Rattle.fenloth_c.specs.declared.answer.Answer.{Answer}
 use Rattle.fenloth_c.specs.declared.answer.Answer.TheVariants.{Yes, NoTranscript, Fails, NoScript, NoMemory, TooLong, NoRoom}
 
--- the number that C gets
+-- the number that a C function returns for each answer
 abbrev pub code_of : Answer → ℕ
 code_of Yes = 0
 code_of NoTranscript = 1
@@ -28,8 +28,8 @@ abbrev pub AreTexts : List ℕ → List ℕ → (Script → List (List SeenLine)
 AreTexts script text Holds =
     (s : Script) × (t : List (List SeenLine)) × IsScript s script × IsTranscriptText text t × Holds s t
 
--- The answer is true of these two texts; if both are faulty, the answer is NoScript. The three relations define what
--- Yes, a clause and NoRoom mean for a script and a transcript.
+-- The given answer is true of the texts `script` and `text`; if both are faulty, the answer is NoScript. The three
+-- relations define what Yes, a clause and NoRoom mean for a script and a transcript.
 abbrev pub IsTrueOf : List ℕ → List ℕ → (Script → List (List SeenLine) → Type 0)
     → (Script → List (List SeenLine) → Clause → Type 0) → (Script → List (List SeenLine) → Type 0) → Answer → Type 0
 IsTrueOf script text IsYes Fail IsFull Yes = AreTexts script text IsYes
@@ -41,7 +41,7 @@ IsTrueOf script text IsYes Fail IsFull NoMemory = ⊤
 IsTrueOf script text IsYes Fail IsFull TooLong = IsScriptText script × (2 ^ 31 < length text)
 IsTrueOf script text IsYes Fail IsFull NoRoom = AreTexts script text IsFull
 
--- the answer of the check is true: the transcript is lawful, or this clause is the first that fails
+-- `answer`, that of the check, is true. Yes: the transcript is lawful. A clause: it is the first that fails
 abbrev pub IsChecked : List ℕ → List ℕ → Answer → Type 0
 IsChecked script text answer = IsTrueOf script text IsSound FirstFails (λ s t. ⊥) answer
 
@@ -66,13 +66,13 @@ abbrev pub IsRemade : List ℕ → List ℕ → List ℕ → List ℕ → ℕ �
 IsRemade script text old new made answer =
     IsTrueOf script text (IsMade old new made) StepsFail (IsLonger old made) answer
 
--- if the flag is true, the buffer now begins with the text. If it is false, the text is longer than the buffer, and the
--- buffer is unchanged
+-- if the flag is true, the buffer, `old` before and `new` now, begins with `text`. If the flag is false, `text` is
+-- longer than the buffer, and the buffer is unchanged
 abbrev pub IsPut : Bool → List ℕ → List ℕ → List ℕ → Type 0
 IsPut true text old new = new ≡ text ++ drop (length text) old
 IsPut false text old new = (new ≡ old) × (length old < length text)
 
--- no script was read, and the answer is a true reason
+-- no script was read from `script`, and the given answer is a true reason for that
 abbrev pub IsNoScript : List ℕ → Answer → Type 0
 IsNoScript script NoScript = (s : Script) → IsScript s script → ⊥
 IsNoScript script NoMemory = ⊤
@@ -82,7 +82,7 @@ IsNoScript script (Fails clause) = ⊥
 IsNoScript script TooLong = ⊥
 IsNoScript script NoRoom = ⊥
 
--- no transcript was read, and the answer is a true reason
+-- no transcript was read from `text`, and the given answer is a true reason for that
 abbrev pub IsNoTranscript : List ℕ → Answer → Type 0
 IsNoTranscript text NoTranscript = (t : List (List SeenLine)) → IsTranscriptText text t → ⊥
 IsNoTranscript text NoMemory = ⊤

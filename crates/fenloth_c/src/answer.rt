@@ -11,7 +11,7 @@ pub enum Answer {
     Yes,
     /// The text is not that of a transcript.
     NoTranscript,
-    /// This clause is the first that fails.
+    /// The clause in this answer is the first that fails.
     Fails(Clause),
     /// The script has a fault.
     NoScript,

@@ -1,4 +1,4 @@
-//! The answer of the check.
+//! The answer of `fenloth_check`.
 ghost use Rattle.fenloth_c.specs.Answers.{IsChecked};
 
 use crate::answer::Answer;

@@ -1,4 +1,4 @@
-//! The answer of the replay.
+//! The answer of `fenloth_replay`.
 ghost use Rattle.std.specs.Prelude.{◌≡◌, ◌≢◌, length, IfOk};
 ghost use Rattle.key_names.specs.Texts.TranscriptGrammar.{transcript_text};
 ghost use Rattle.fenloth_c.specs.Answers.{IsPut, IsRemade, code_of};
@@ -33,7 +33,7 @@ fn put(text: &[u8], buffer: &mut [u8]) -> bool
     true
 }
 
-/// Makes a transcript again, with the same words and steps.
+/// Makes a transcript again, with the same words and steps, and puts its text into the buffer.
 pub(crate) fn answer(
     alloc: Global,
     script: &[u8],

@@ -4,7 +4,7 @@ ghost use Rattle.std.specs.Prelude.{◌≡◌, [], Some};
 use io_edges::{Failed, Sink};
 use std::alloc::Global;
 
-/// The bytes that were put. A put fails if there is no memory for it.
+/// A sink that keeps the bytes put into it. A put fails if there is no memory for its bytes.
 #[derive(Drop)]
 pub(crate) struct Written {
     pub bytes: Vec<u8>,

@@ -25,7 +25,7 @@ credit-after_none bits more = omega arith
 pub mixed-mixed : (s : PoolState) (front rest : List ℕ) → mixed (mixed s front) rest ≡ mixed s (front ++ rest)
 mixed-mixed s front rest = rw (append_assoc s.text front rest, credit-after_none s.bits 0) refl
 
--- a mix and then a credit change the pool like one Mix entry
+-- a mix of `text` and then a credit of `bits` change the pool like the one entry `Mix text bits`
 pub PoolConforms-mix : (pool : PoolParts) (s : PoolState) (text : List ℕ) (bits : ℕ)
     → PoolConforms pool (mixed_and_credited s text bits) → PoolConforms pool (pool_step s (Mix text bits))
 PoolConforms-mix pool s text bits conforms = record {
@@ -34,7 +34,7 @@ PoolConforms-mix pool s text bits conforms = record {
   capped = omega arith;
 }
 
--- a mix and then a credit cross the threshold that the Mix entry crosses
+-- a mix of `text` and then a credit of `bits` cross the threshold that the one entry `Mix text bits` crosses, or none
 pub crossing-mix : (before between after : PoolParts) (s : PoolState) (text : List ℕ) (bits : ℕ) → PoolConforms before s
     → PoolConforms between (mixed s text) → PoolConforms after (mixed_and_credited s text bits)
     → crossing between.bits after.bits ≡ crossing s.bits (pool_step s (Mix text bits)).bits

@@ -13,7 +13,7 @@ use Rattle.int_batch.specs.BatchValue.{BatchValue, start, wants, filled, next_by
 pub wants-start : (look width : ℕ) → wants look width (start width) ≡ must_fill look width None
 wants-start look width = ap (λ (b : Bool). b || not (look == 0)) (le-leb (96 / width) (96 / width) (omega arith))
 
--- IsBatchOf holds for a batch right after a fill from the key
+-- `IsBatchOf` holds for a batch right after a fill with bytes of the key's keystream
 pub IsBatchOf-filled : (width : ℕ) (key : List ℕ) (fill : Fill) → fill.count ≡ 0 →
     IsBatchOf width key fill (filled (keystream key 32 96) fill.look)
 IsBatchOf-filled width key fill none = record {
@@ -23,7 +23,7 @@ IsBatchOf-filled width key fill none = record {
   rest = refl;
 }
 
--- an integer that is served ends within the 96 bytes
+-- if fewer than `96 / width` integers were served, the next one ends within the 96 bytes
 room : (width position : ℕ) → position < 96 / width → width * position + width ≤ 96
 room width position below = grind arith
 

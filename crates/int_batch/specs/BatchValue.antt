@@ -4,14 +4,14 @@ use Rattle.key_names.specs.Kernel.Keystream.{keystream}
 use Rattle.key_names.specs.Kernel.Batches.{Fill, must_fill, with_zeros}
 
 pub record BatchValue : Type 0 where
-  -- 96 bytes
+  -- the batch's 96 bytes
   pub bytes : List ℕ
   -- how many integers were served since the last fill
   pub position : ℕ
   -- the generation of the last fill
   pub generation : ℕ
 
--- a batch that is used up, for integers of this many bytes
+-- a batch that is used up, for integers of `width` bytes
 abbrev pub start : ℕ → BatchValue
 start width = record { bytes = replicate 96 0; position = 96 / width; generation = 0 }
 
@@ -23,11 +23,11 @@ last_fill b = record { key = None; place = 0; count = b.position; look = b.gener
 abbrev pub wants : ℕ → ℕ → BatchValue → Bool
 wants g width b = must_fill g width (Some (last_fill b))
 
--- the batch after a fill with these bytes at a generation
+-- the batch after a fill with `bytes` at generation `g`
 abbrev pub filled : List ℕ → ℕ → BatchValue
 filled bytes g = record { bytes = bytes; position = 0; generation = g }
 
--- the bytes of the next integer
+-- the bytes of the next integer that the batch serves
 abbrev pub next_bytes : ℕ → BatchValue → List ℕ
 next_bytes width b = slice_range b.bytes (width * b.position) (width * b.position + width)
 
@@ -38,19 +38,19 @@ after_serving width b = record b {
   position = b.position + 1;
 }
 
--- the batch b serves this integer, and then is `after`
+-- the batch `b` serves the integer `entry`, and then is `after`
 abbrev pub Serves : ℕ → BatchValue → List ℕ → BatchValue → Type 0
 Serves width b entry after = (entry ≡ next_bytes width b) × (after ≡ after_serving width b)
 
--- the batch serves this integer at generation g. If the batch has to be filled first, the new bytes are some that
--- `Fills` allows
+-- the batch `b` serves the integer `entry` at generation `g`, and then is `after`. If the batch has to be filled first,
+-- the new bytes are some that `Fills` allows
 abbrev pub ServesAt : ℕ → ℕ → (List ℕ → Type 0) → BatchValue → List ℕ → BatchValue → Type 0
 ServesAt width g Fills b entry after =
     MatchBool (wants g width b) ((bytes : List ℕ) × Fills bytes × Serves width (filled bytes g) entry after)
     (Serves width b entry after)
 
--- the batch has the count and the generation of this fill, and 96 bytes. The bytes that were not served yet come from
--- this key
+-- the batch `b` has the count and the generation of `fill`, and 96 bytes. The bytes that were not served yet come from
+-- the keystream of `key`
 pub record IsBatchOf (width : ℕ) (key : List ℕ) (fill : Fill) (b : BatchValue) : Type 0 where
   pub position : b.position ≡ fill.count
   pub generation : b.generation ≡ fill.look

@@ -9,7 +9,7 @@ use std::marker::Model;
 /// The bytes of a batch: one and a half blocks (`CHACHA_BLOCK_SIZE * 3 / 2`).
 const BATCH_BYTES: usize = 96;
 
-/// A batch of integers of `W` bytes (`struct batch_u8` to `batch_u64`): bytes of a key at one generation, and the
+/// A batch of integers of `W` bytes (`struct batch_u8` to `batch_u64`): bytes that were made at one generation, and the
 /// number of integers served from them. The bytes of a served integer are 0.
 #[derive(Drop)]
 pub struct Batch<const W: usize> {
@@ -51,7 +51,7 @@ impl<const W: usize> Batch<W> {
         self.position >= BATCH_BYTES / W || g != self.generation
     }
 
-    /// Replaces the bytes of the batch by these, which were made at generation `g`.
+    /// Replaces the bytes of the batch by `bytes`, which were made at generation `g`.
     pub fn refill(&mut self, bytes: &[u8; 96], g: u64)
         ensures { self.new ≡ filled bytes.now g }
     {
@@ -60,7 +60,7 @@ impl<const W: usize> Batch<W> {
         self.generation = g;
     }
 
-    /// Serves the next integer of a batch that is not used up, and sets its bytes to 0.
+    /// Serves the next integer of a batch that is not used up, and sets the integer's bytes to 0.
     pub fn serve(&mut self) -> [u8; W]
         requires { self.old.position < 96 / W }
         ensures entry { result ≡ next_bytes W self.old }

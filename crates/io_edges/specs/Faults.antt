@@ -1,7 +1,7 @@
 -- Counts that never fall, and stop at the highest number of a `u64`.
 use Rattle.std.specs.Prelude.{ℕ, ◌+◌, ◌-◌, ◌^◌, ◌≤◌, min}
 
--- one more than this count, but at most 2^64 - 1
+-- one more than the given count, but at most 2^64 - 1
 abbrev pub next_count : ℕ → ℕ
 next_count n = min (n + 1) (2 ^ 64 - 1)
 

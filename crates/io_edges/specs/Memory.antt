@@ -3,7 +3,7 @@ use Rattle.std.specs.Prelude.{ℕ, ◌-◌, ◌≡◌, ◌==◌, ◌<◌, ◌⊎
 use Rattle.std.specs.List.{list_any}
 use Rattle.io_edges.specs.Faults.{next_count}
 
--- whether a call with this number fails
+-- whether the call with the given number fails: `fails` lists the number
 abbrev pub is_listed : ℕ → List ℕ → Bool
 is_listed number fails = list_any (λ k. k == number) fails
 
@@ -20,11 +20,11 @@ pub record SourceState : Type 0 where
 abbrev pub TakeFails : SourceState → Type 0
 TakeFails s = IsTrue (is_listed (next_count s.calls) s.fails)
 
--- how many bytes a call gives into a buffer of this length
+-- how many bytes a call of the source gives into a buffer of `len` bytes
 abbrev pub count_given : SourceState → ℕ → ℕ
 count_given s len = min len (min s.step (length s.left))
 
--- the source after a call that gave n bytes
+-- the source after a call that gave `n` bytes
 abbrev pub after_take : SourceState → ℕ → SourceState
 after_take s n = record s { left = drop n s.left; calls = next_count s.calls }
 
@@ -43,15 +43,15 @@ pub record SinkState : Type 0 where
   pub calls : ℕ
   pub faults : ℕ
 
--- the sink's next put fails: the number of the put is listed, or there are bytes to put and no room
+-- the sink's next put, of `piece`, fails: the number of the put is listed, or `piece` has bytes and the sink no room
 abbrev pub PutFails : SinkState → List ℕ → Type 0
 PutFails s piece = IsTrue (is_listed (next_count s.calls) s.fails) ⊎ ((0 < length piece) × (s.room ≡ length s.held))
 
--- how many bytes a put takes of a piece of this length
+-- how many bytes a put takes of a piece of `len` bytes
 abbrev pub count_taken : SinkState → ℕ → ℕ
 count_taken s len = min len (min s.step (s.room - length s.held))
 
--- the sink after a put that took n bytes of the piece
+-- the sink after a put that took `n` bytes of `piece`
 abbrev pub after_put : SinkState → List ℕ → ℕ → SinkState
 after_put s piece n = record s { held = s.held ++ take n piece; calls = next_count s.calls }
 

@@ -23,7 +23,7 @@ impl Model for NoFaultSource {
 }
 
 impl NoFaultSource {
-    /// A source with these bytes left.
+    /// A source from which all of `bytes` are left to take.
     pub fn of(bytes: Vec<u8>) -> NoFaultSource
         ensures { result ≡ bytes.items }
     {
@@ -51,7 +51,7 @@ impl Source for NoFaultSource {
 pub struct NoFaultSink;
 
 impl NoFaultSink {
-    /// The sink.
+    /// Makes the sink.
     pub fn of() -> NoFaultSink {
         NoFaultSink
     }

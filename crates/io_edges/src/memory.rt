@@ -77,7 +77,8 @@ impl Model for MemSource {
 }
 
 impl MemSource {
-    /// A source that has these bytes left, and gives at most `step` bytes a call. Its calls start at number 1.
+    /// A source from which all of `bytes` are left, and which gives at most `step` bytes a call. The calls whose
+    /// numbers are in `fails` fail; the first call has number 1.
     pub fn of(bytes: Vec<u8>, step: usize, fails: Vec<u64>) -> MemSource
         requires { 0 < step }
         ensures { result ≡ record { left = bytes.items; step = step; fails = fails.items; calls = 0; faults = 0 } }
@@ -104,7 +105,7 @@ impl Source for MemSource {
         ensures went { IfOk result (λ n. self.new ≡ after_take self.old n) }
         ensures failed { OnErr result (self.new ≡ after_failed_take self.old) }
 
-        // What each source promises.
+        // The clauses that the trait `Source` requires.
         ensures bound { ReadsAtMost result buf.new }
         ensures taken { IfOk result (λ n. Consumes (Some self.old.left) (Some self.new.left) (take n buf.new)) }
         ensures end { IfOk result (λ n. n ≡ 0 → 0 < length buf.old → self.new.left ≡ []) }
@@ -214,7 +215,7 @@ impl Sink for MemSink {
         ensures went { IfOk result (λ n. self.new ≡ after_put self.old piece.now n) }
         ensures failed { OnErr result (self.new ≡ after_failed_put self.old) }
 
-        // What each sink promises.
+        // The clauses that the trait `Sink` requires.
         ensures some { IfOk result (λ n. 0 < length piece.now → 0 < n) }
         ensures cause { OnErr result (Rose self.old.faults self.new.faults) }
     {
@@ -234,7 +235,7 @@ impl Sink for MemSink {
         ensures same { OnOk result (self.new ≡ self.old) }
         ensures failed { OnErr result (self.new ≡ after_failed_flush self.old) }
 
-        // What each sink promises.
+        // The clauses that the trait `Sink` requires.
         ensures cause { OnErr result (Rose self.old.faults self.new.faults) }
     {
         if self.flush_fails {

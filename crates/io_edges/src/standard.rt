@@ -37,7 +37,7 @@ impl<I: Read + Drop> Source for StdSource<I> {
         ensures not_counted { OnOk result (source_faults self.new ≡ source_faults self.old) }
         ensures counted { OnErr result (source_faults self.new ≡ next_count (source_faults self.old)) }
 
-        // What each source promises.
+        // The clauses that the trait `Source` requires.
         ensures bound { ReadsAtMost result buf.new }
         ensures taken { IfOk result (λ n.
             Consumes (I.remaining (source_reader self.old)) (I.remaining (source_reader self.new)) (take n buf.new)) }
@@ -92,7 +92,7 @@ impl<O: Write + Drop> Sink for StdSink<O> {
         ensures not_counted { OnOk result (sink_faults self.new ≡ sink_faults self.old) }
         ensures counted { OnErr result (sink_faults self.new ≡ next_count (sink_faults self.old)) }
 
-        // What each sink promises.
+        // The clauses that the trait `Sink` requires.
         ensures bound { WritesAtMost result piece.now }
         ensures some { IfOk result (λ n. 0 < length piece.now → 0 < n) }
         ensures appended { IfOk result (λ n. Appends (writer_contents O.contents (sink_writer self.old))
@@ -118,7 +118,7 @@ impl<O: Write + Drop> Sink for StdSink<O> {
         ensures not_counted { OnOk result (sink_faults self.new ≡ sink_faults self.old) }
         ensures counted { OnErr result (sink_faults self.new ≡ next_count (sink_faults self.old)) }
 
-        // What each sink promises.
+        // The clauses that the trait `Sink` requires.
         ensures handed_on { OnOk result (writer_buffer (sink_writer self.new) ≡ []) }
         ensures kept { Keeps (writer_contents O.contents (sink_writer self.old))
             (writer_contents O.contents (sink_writer self.new)) }

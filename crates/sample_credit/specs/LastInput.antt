@@ -2,13 +2,13 @@
 use Rattle.std.specs.Prelude.{ℕ, ◌<◌, ◌^◌, ℤ, nat_abs}
 use Rattle.key_names.specs.Kernel.InputTimer.{InputTimer}
 
--- the last value, and the timer
+-- the value of the last input event, and the timer of input events
 pub record LastInput : Type 0 where
   pub value : ℕ
   pub timer : InputTimer
 
--- the last moment is below 2^40. The last difference of two moments is below 2^40 in absolute value, and the last
--- difference of two such differences is below 2^41
+-- the last moment, `time`, is below 2^40. The last difference of two moments, `delta`, is below 2^40 in absolute value,
+-- and the last difference of two such differences, `delta2`, is below 2^41 in absolute value
 pub record IsNear (time : ℕ) (delta delta2 : ℤ) : Type 0 where
   pub time_near : time < 2 ^ 40
   pub delta_near : nat_abs delta < 2 ^ 40

@@ -78,7 +78,7 @@ impl InputTimer {
     }
 }
 
-// The bits that an event credits, given these differences of moments.
+// The bits that an event credits, given the first, second and third difference of moments.
 fn bits_of(delta: i64, delta2: i64, delta3: i64) -> u32
     ensures { let least = min (nat_abs delta) (min (nat_abs delta2) (nat_abs delta3)) in
         result ≡ min (binary_digits (least / 2 % 2 ^ 32)) MAX_BITS }

@@ -9,8 +9,8 @@ fn draws_hand_out_the_second_half(rt: HostRuntime) {
     assert_eq!(rt; Some(&out[..]), zero_stream(32, 64));
     assert_eq!(rt; rest.key, [0; 32]);
     assert_eq!(rt; rest.next_block, 1);
-    // The base kept the first half of the block as its key. These bytes begin the second half of that key's first
-    // block.
+    // The base's key is now the first half of block 0 of the zero key's stream. The bytes below begin the second half
+    // of the new key's block 0.
     assert!(rt;
         base.call_key()
             .starts_with(b"\xaf\xbd\xad\x28\x45\xb9\x3c\xdb")

@@ -1,7 +1,7 @@
 use crate::streams::zero_stream;
 use cpu_gen::Cpu;
 
-// The first bytes of the next call key, if the key is the first half of block 0.
+// The first bytes of the next call key, if the CPU's key is the first half of block 0 of the zero key's stream.
 const NEXT_CALL_KEY: &[u8] = b"\xaf\xbd\xad\x28\x45\xb9\x3c\xdb";
 
 fn zero_cpu() -> Cpu {
@@ -15,7 +15,7 @@ fn kernel_read_of_96_goes_on_in_the_next_block(rt: HostRuntime) {
     cpu.kernel_read(&mut bytes);
     assert_eq!(rt; Some(&bytes[..]), zero_stream(32, 128));
     assert_eq!(rt; cpu.generation(), 1);
-    // The key is now the first half of block 0.
+    // The CPU's key is now the first half of block 0 of the zero key's stream.
     assert!(rt; cpu.call_key().starts_with(NEXT_CALL_KEY));
 }
 

@@ -69,7 +69,7 @@ impl Gate for HeldCpu {
     }
 }
 
-// Holds CPU 0 until caller 0 is queued there and caller 1 has read.
+// Holds CPU 0 until caller 0 is queued for it and caller 1 has read.
 fn hold<R: Wait>(
     rt: &R,
     lanes: &Lanes,

@@ -9,7 +9,7 @@ fn count_bytes(bytes: &mut [u8; 96]) {
     }
 }
 
-// The bytes that a batch serves after a fill at this generation. The batch must not have had this generation before.
+// The bytes that a batch serves after a fill at `generation`. The batch must not have had this generation before.
 fn bytes_before<const W: usize>(batch: &mut Batch<W>, generation: u64) -> [u8; 96]
     requires some { 0 < W }
     requires fits { W ≤ 96 }

@@ -75,8 +75,8 @@ impl SeenSamples {
     }
 }
 
-// Feeder 0 waits at the gate of its sample 0 until feeder 1 is at the gate of its sample 10. Feeder 1 waits there for
-// feeder 0.
+// Feeder 0 waits at the gate of its sample 0 until feeder 1 is at the gate of its sample 10. Feeder 1 waits at that
+// gate for feeder 0.
 #[derive(Drop)]
 struct CrossedGate {
     first: SeenSamples,

@@ -1,4 +1,4 @@
-//! Passes that meet at lanes.
+//! Passes of two callers that visit the same lanes.
 ghost use Rattle.std.specs.Prelude.{◌≡◌, ℕ, ◌<◌, ◌≤◌, ◌^◌, []};
 ghost use Rattle.key_names.specs.declared.entries.CpuEntry.TheVariants.{Irq};
 ghost use Rattle.lane_table.specs.declared.view.Handed.{Handed};
@@ -20,7 +20,7 @@ use std::thread::Threads;
 
 const NEVER: u64 = 1 << 62;
 
-// Ends a table whose pass was split once.
+// Joins the two halves of a pass that was split once, and ends the table.
 fn counted(lanes: Lanes, mut pass: Pass, other: Pass) -> u128
     requires pass { HoldsLanes lanes 0 [] pass × ((view pass).share ≡ 1) × ((view pass).halvings ≡ 1) }
     requires other { HoldsLanes lanes 1 [] other × ((view other).share ≡ 1) × ((view other).halvings ≡ 1) }
@@ -143,7 +143,7 @@ fn irqs<R: Wait>(rt: &R, lanes: &Lanes, mut pass: Pass, caller: u32, times: u32)
     pass
 }
 
-// The marks of a reseed, and the looks of another pass before and after the raise.
+// The marks of a reseed, and the looks of another pass before and after the reseed raises the generation.
 #[derive(Drop)]
 struct Reseeded {
     extracted: Mark,

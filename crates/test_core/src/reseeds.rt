@@ -24,7 +24,7 @@ const WHO: Who = Who {
     step: 0,
 };
 
-// Extracts the pool, and returns the root.
+// Extracts a root (the next base key) from the pool, and returns it.
 fn extract(state: &mut LaneState) -> [u8; 32]
     requires { (s : Model) × ValueRepresents 0 state.old s }
     ensures made { (s : Model) (place : ℕ) → ValueRepresents 0 state.old s

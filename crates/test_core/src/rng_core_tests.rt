@@ -20,7 +20,7 @@ use std::sync::Wait;
 use std::test::Fail;
 use vdso_state::VState;
 
-// The bytes 0 to 31.
+// Bytes with the values 0 to 31, in order.
 const COUNTING: [u8; 32] = [
     0, 1, 2, 3, 4, 5, 6, 7, 8, 9, 10, 11, 12, 13, 14, 15, 16, 17, 18, 19, 20, 21, 22, 23, 24, 25,
     26, 27, 28, 29, 30, 31,

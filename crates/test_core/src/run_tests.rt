@@ -73,7 +73,8 @@ e075b16b0c4452a518eca3ab47632384e594d8d16878e30fbdc2dd5f21bd4ce02c16be73d82f3107
     1.1 end ok b:4@8 -\n\
     end\n";
 
-// The text up to the mark of caller 0's end. Up to this mark no caller's steps depend on another's.
+// The text of the transcript, up to the mark of caller 0's event `end`. Up to this mark no caller's steps depend on
+// another's.
 const IN_THREADS: &[u8] = b"rngtranscript 1\n\
     0.0 credit ok p:0@1,p:1@2,b:0@3 -\n\
     0.1 vread ok ~1,~1,~1,~1,b:1@4,c0:0@5,~1 \

@@ -1,7 +1,8 @@
 use sample_credit::{Dump, FastPool};
 
-// The words after two words were mixed under a zero key, with one round of SipHash for each. These words are from an
-// implementation that was compared with the SipHash-1-3 of CPython.
+// The fast pool's first two words after one interrupt, and after 1,024. Each interrupt mixes two words, with one round
+// of SipHash for each, and the key is zero. The constants are from an implementation that was compared with the
+// SipHash-1-3 of CPython.
 const AFTER_ONE_MIX: [u8; 16] =
     *b"\x64\x45\x64\xd7\x49\x89\xff\x51\x5d\xce\x1d\xa4\x4c\x05\x8c\xe9";
 

@@ -1,6 +1,6 @@
-//! Forks at each of the four points, in the first attempt and in the second. The host publishes a list of generations,
-//! and fills its answer to each system call with a new byte value. The expected bytes are computed from the keystream
-//! of the keys that the host gave.
+//! Forks of a process inside a vgetrandom call, at each of the four points of the first attempt and of the second. The
+//! host publishes a list of generations, and fills its answer to each system call with a new byte value. The expected
+//! bytes are computed from the keystream of the keys that the host gave.
 
 ghost use Rattle.std.specs.Prelude.{◌≡◌, ◌-◌, ◌≤◌, ◌^◌};
 

@@ -110,7 +110,8 @@ fn shown(st: &VState) -> (u64, usize, bool) {
     (st.generation(), st.left(), st.is_in_use())
 }
 
-// The first half of block 0 of the zero key is served. The rest of the first two blocks is the batch and the next key.
+// The first half of block 0 of the zero key's stream is served. The rest of the first two blocks is the batch and the
+// next key.
 #[test]
 fn a_current_key_serves(rt: HostRuntime) {
     let mut host = ListHost::steady([None, None]);

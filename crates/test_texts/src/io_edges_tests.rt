@@ -35,7 +35,7 @@ fn sink_of(
     MemSink::of(alloc, step, [failing].to_vec(alloc)?, TEXT.len())
 }
 
-// The position in the text after this many calls of `step` bytes each.
+// The position in `TEXT` after `calls` calls of `step` bytes each.
 fn place(calls: u64, step: usize) -> usize
     ensures { result ≤ length TEXT.now }
 {
@@ -47,7 +47,7 @@ fn a_source_in_memory_fails_at_each_call_in_turn(rt: HostRuntime) -> Result<(), 
     let alloc = rt.alloc();
     for step in STEPS {
         assert!(rt; step > 0);
-        // The last call finds the end.
+        // The last call finds the end of `TEXT`.
         let calls = TEXT.len().div_ceil(step) as u64 + 1;
         for failing in 1..=calls {
             let mut source = source_of(&rt, alloc, step, failing)?;

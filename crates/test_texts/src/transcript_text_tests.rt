@@ -105,7 +105,7 @@ fn each_line_is_one_put_and_a_failed_put_leaves_the_lines_before(
     Ok(())
 }
 
-/// Counts the puts, and keeps the length of the longest.
+/// A sink that counts the puts, and keeps the length of the longest.
 #[derive(Drop)]
 struct Pieces {
     puts: u32,
@@ -305,7 +305,7 @@ fn the_number_of_bits_is_read(rt: HostRuntime) -> Result<(), Fail> {
     Ok(())
 }
 
-/// The number of the first faulty line of a text with this head, or 0 if the text has no fault.
+/// The number of the first faulty line of the text `head`, then `rest`; 0 if this text has no fault.
 fn fault(rt: &impl Abort, alloc: Global, head: &str, rest: &str) -> Result<u32, AllocError> {
     let text = format!(in alloc; "{head}{rest}")?;
     assert!(rt; text.len() < 1 << 20);

@@ -1,4 +1,4 @@
-//! The fields of a row.
+//! The fields of a row: a line of standard input that asks for one answer.
 use anyhow::{Result, bail};
 use std::alloc::Global;
 

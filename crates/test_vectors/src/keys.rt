@@ -7,7 +7,7 @@ use blake2s_core::{Blake2s, hash};
 use chacha_blocks::{erase_and_fill, fill, user_read};
 use std::alloc::Global;
 
-/// A row's bytes must end before this position of a stream.
+/// The first byte that a row asks for must be before this position of the key's stream.
 const STREAM_END: u64 = 1 << 39;
 
 /// The most bytes that a row may ask for.
@@ -28,7 +28,7 @@ fn digest(key: Option<&[u8; 32]>, text: &[u8], size: usize) -> [u8; 32] {
     state.finish()
 }
 
-/// `hash KEY TEXT SIZE`
+/// Answers the row `hash KEY TEXT SIZE`.
 pub fn hash_row(alloc: Global, key: &str, text: &str, size: &str) -> Result<String> {
     let text = bytes_of(alloc, text)?;
     let size = number_of(size)? as usize;
@@ -49,7 +49,7 @@ fn room(alloc: Global, len: &str) -> Result<Vec<u8>>
     Ok(vec![in alloc; 0; len as usize]?)
 }
 
-/// `stream KEY FROM LEN`
+/// Answers the row `stream KEY FROM LEN`.
 pub fn stream_row(alloc: Global, key: &str, from: &str, len: &str) -> Result<String> {
     let key = key_of(key)?;
     let from = number_of(from)?;
@@ -66,7 +66,7 @@ pub enum ReadBy {
     User,
 }
 
-/// `kernel KEY LEN` and `user KEY LEN`
+/// Answers the rows `kernel KEY LEN` and `user KEY LEN`.
 pub fn read_row(alloc: Global, reader: ReadBy, key: &str, len: &str) -> Result<String> {
     let mut key = key_of(key)?;
     let mut bytes = room(alloc, len)?;
@@ -79,7 +79,7 @@ pub fn read_row(alloc: Global, reader: ReadBy, key: &str, len: &str) -> Result<S
     Ok(format!(in alloc; "{key} {bytes}")?)
 }
 
-/// Bytes as a row shows them.
+/// Bytes as an answer shows them: in hexadecimal, or `-` if there are none.
 pub fn shown(alloc: Global, bytes: &[u8]) -> Result<String> {
     if bytes.is_empty() {
         return Ok("-".to_string(alloc)?);

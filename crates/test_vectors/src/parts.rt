@@ -9,7 +9,7 @@ use input_pool::{Crossing, Pool};
 use sample_credit::{FastPool, InputTimer};
 use std::alloc::Global;
 
-/// Moments are below this.
+/// Each moment, in milliseconds, is below this number.
 const LAST_MOMENT: u64 = 1 << 40;
 
 /// An input pool, a fast pool, an input timer and a base, each in its state when the kernel starts.
@@ -31,7 +31,7 @@ fn moment_of(field: &str) -> Result<u64>
 }
 
 impl KernelParts {
-    /// The parts before the first row.
+    /// The parts as they are before the first row.
     pub fn start() -> KernelParts {
         KernelParts {
             pool: Pool::start(),
@@ -41,14 +41,14 @@ impl KernelParts {
         }
     }
 
-    /// `mix TEXT`
+    /// Answers the row `mix TEXT`.
     pub fn mix(&mut self, alloc: Global, text: &str) -> Result<String> {
         self.pool.mix(&bytes_of(alloc, text)?);
         let bits = self.pool.bits();
         Ok(format!(in alloc; "{bits}")?)
     }
 
-    /// `credit BITS`
+    /// Answers the row `credit BITS`.
     pub fn credit(&mut self, alloc: Global, bits: &str) -> Result<String> {
         let bits = number_of(bits)?;
         ensure!(bits <= 1 << 20, "too many bits: {bits}");
@@ -61,13 +61,13 @@ impl KernelParts {
         Ok(format!(in alloc; "{crossed} {bits}")?)
     }
 
-    /// `extract HARDWARE`
+    /// Answers the row `extract HARDWARE`.
     pub fn extract(&mut self, alloc: Global, hardware: &str) -> Result<String> {
         let root = self.pool.extract(&key_of(hardware)?);
         shown(alloc, &root)
     }
 
-    /// `irq WORD WORD MOMENT`
+    /// Answers the row `irq WORD WORD MOMENT`.
     pub fn irq(&mut self, alloc: Global, first: &str, second: &str, now: &str) -> Result<String> {
         let now = moment_of(now)?;
         if !self.fast.mix(number_of(first)?, number_of(second)?, now) {
@@ -79,13 +79,13 @@ impl KernelParts {
         Ok(format!(in alloc; "{bytes} {bits}")?)
     }
 
-    /// `bits MOMENT`
+    /// Answers the row `bits MOMENT`.
     pub fn bits(&mut self, alloc: Global, now: &str) -> Result<String> {
         let bits = self.timer.bits(moment_of(now)?);
         Ok(format!(in alloc; "{bits}")?)
     }
 
-    /// `reseed MOMENT`
+    /// Answers the row `reseed MOMENT`.
     pub fn reseed(&mut self, alloc: Global, now: &str) -> Result<String> {
         let now = moment_of(now)?;
         ensure!(self.base.generation() < 1 << 62, "too many reseeds");
@@ -98,7 +98,7 @@ impl KernelParts {
         Ok(format!(in alloc; "{generation}")?)
     }
 
-    /// `due MOMENT`
+    /// Answers the row `due MOMENT`.
     pub fn due(&self, alloc: Global, now: &str) -> Result<String> {
         let due = if self.base.due(moment_of(now)?) {
             "yes"

@@ -1,4 +1,4 @@
-//! A row, and its answer.
+//! A row (a line of standard input that asks for one answer), and its answer.
 use crate::keys::{ReadBy, hash_row, read_row, stream_row};
 use crate::parts::KernelParts;
 use anyhow::{Result, bail};

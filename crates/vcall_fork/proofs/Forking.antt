@@ -1,5 +1,5 @@
--- A fork does not change the parent's call. If a child gives out bytes of its state, the child read a key after the
--- fork.
+-- A fork inside a vgetrandom call does not change the parent's call. If a child gives out bytes of its state, the child
+-- read a key after the fork.
 use Rattle.std.proofs.Common.{◌≡◌, ◌≢◌, ◌⊎◌, ℕ, ◌<◌, ◌≤◌, Bool, true, false, List, [], ◌∷◌, ◌++◌, refl, sym, ap, subst, ◌∙◌, inl, inr, arith}
 use Rattle.std.specs.Prelude.{◌==◌, ◌&&◌, ◌||◌, MatchBool, if◌then◌else◌}
 use Rattle.std.proofs.lemmas.Bool.{ne_eqb}
@@ -20,7 +20,7 @@ use Rattle.vdso_state.specs.Places.{FromPoint, IfOutdated, Climbs}
 use Rattle.vdso_state.proofs.Leading.{at_leads}
 use Rattle.vcall_fork.specs.Forks.{ForksAreRecorded, takes_key, ChildTakesKey}
 
--- a host with no promises
+-- a host (what a call asks for generations and system calls) that promises nothing
 abbrev anybody : Doings (Unit {0})
 anybody = doings (λ h g next. Unit {0}) (λ h n flags answer next. Unit {0}) (λ h point wiped next. Unit {0})
 
@@ -33,7 +33,7 @@ forks_are_recorded stage held s n flags place out t before entries leads = recor
       r);
 }
 
--- A new key after the fork
+-- Whether a call read a new key after the fork
 
 takes_append : (taken : Bool) (xs ys : List HostStep) →
     takes_key taken (xs ++ ys) ≡ takes_key (takes_key taken xs) ys
@@ -45,8 +45,8 @@ takes_append taken (system_call n flags (failed errno) ∷ xs) ys = takes_append
 takes_append taken (at_point point wiped ∷ xs) ys =
     takes_append (if is_same_point point Start then false else taken) xs ys
 
--- the state's generation is below `low`, so that generation will not be published again; or a key was read, and the
--- generation is at most `low`
+-- the generation of the state `s` is below `low`, so that generation will not be published again; or a key was read,
+-- and the generation of `s` is at most `low`
 abbrev IsFresh : Bool → ℕ → VgetrandomState → Type 0
 IsFresh taken low s = (s.generation < low) ⊎ ((taken ≡ true) × (s.generation ≤ low))
 
@@ -226,7 +226,7 @@ from_point Serve n c published out high tried rest attempt k some climbs =
 from_point End n c published out high tried rest attempt k some climbs =
     from_end out c wiped_state false published high tried rest attempt k (inl some) climbs
 
--- The end of the call
+-- How the call ended
 
 by_batch_alone : (n flags : ℕ) (s : VgetrandomState) (steps : List HostStep) (outcome : Outcome) (bytes : List ℕ) →
     BySystem n flags s steps outcome → outcome.ending ≡ by_batch bytes → ⊥

@@ -1,5 +1,5 @@
--- The rest of a call after the point of a stop: the reads that it takes as keys, the bytes that it gives, and its
--- entries.
+-- The rest of a vgetrandom call after the point at which the call was stopped: the reads that the rest takes as keys,
+-- the bytes that it gives, and its entries.
 use Rattle.std.proofs.Common.{◌≡◌, ℕ, ◌≤◌, Bool, true, false, List, [], ◌∷◌, ◌++◌, refl, sym, subst, ap, ◌∙◌, arith, eqb-true}
 use Rattle.std.specs.Prelude.{◌==◌, if◌then◌else◌}
 use Rattle.std.specs.List.{fold}
@@ -23,7 +23,7 @@ use Rattle.vdso_state.specs.declared.place.Turn.TheVariants.{First, Second}
 use Rattle.vdso_state.specs.Places.{FromPoint, IfOutdated, AfterPlace}
 use Rattle.key_names.specs.Kernel.Vgetrandom.{state_after_call}
 
--- the entries take the read at place p of CPU c as a key at most as often as the steps make this read
+-- the entries of an attempt take the read at place `p` of CPU `c` as a key at most as often as its steps make this read
 module _ (c p : ℕ) where
   point_bounded : (point : Point) (n from published : ℕ) (out : List ℕ) (s : VgetrandomState) (steps : List HostStep)
       (attempt : Attempt) → FromPoint point n from published out s steps attempt → Bounded c p steps attempt
@@ -128,7 +128,7 @@ module _ (lists : Lists) (caller k : ℕ) where
       from h)
       (λ u c v rest later g on b. outdated_named place.turn n flags c some u v rest later g on b) good r
 
--- After a wipe, the list of a state continues like the list of a new state
+-- After a wipe, the list of a vgetrandom state continues like the list of a new state
 module _ (caller state other : ℕ) where
   record SameTurn (s t : NamedState) : Type 0 where
     expected : s.expected ≡ t.expected

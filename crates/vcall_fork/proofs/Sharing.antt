@@ -1,4 +1,4 @@
--- Two callers' states share no byte of a key.
+-- The vgetrandom states of two callers share no byte of a key's keystream.
 use Rattle.std.proofs.Common.{◌≡◌, ◌≢◌, ℕ, ◌+◌, ◌≤◌, Bool, true, false, List, [], ◌∷◌, refl, ◌∙◌, sym, arith, eqb-true}
 use Rattle.std.specs.Prelude.{◌==◌, ◌&&◌}
 use Rattle.key_names.specs.Transcripts.PrintedBytes.{Origin, at_lane, at_state, origin_uses, origins_uses}
@@ -11,7 +11,7 @@ hit_below : (b : Bool) → hit b ≤ 1
 hit_below true = omega arith
 hit_below false = omega arith
 
--- if a and b are not both true, at most one of the two conjunctions is true
+-- if `a` and `b` are not both true, at most one of `a && x` and `b && y` is true
 one_of_two : (a b x y : Bool) → (a ≡ true → b ≡ true → ⊥) → hit (a && x) + (hit (b && y) + 0) ≤ 1
 one_of_two true true x y apart = absurd (apart refl refl)
 one_of_two true false x y apart = let k = hit_below x in omega arith

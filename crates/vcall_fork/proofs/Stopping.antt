@@ -1,4 +1,4 @@
--- A call that is run to a point stops at that point, or ends before that point.
+-- A vgetrandom call that is run to a point of an attempt stops at that point, or ends before that point.
 use Rattle.std.proofs.Common.{◌≡◌, ℕ, ◌≤◌, Bool, true, false, Option, Some, None, List, [], ◌∷◌, ◌++◌, refl, sym, ap, ◌∙◌, append_assoc}
 use Rattle.std.specs.Prelude.{Result, ◌==◌, if◌then◌else◌}
 use Rattle.key_names.specs.declared.errno.Errno.{Errno}
@@ -23,7 +23,7 @@ use Rattle.vcall_fork.specs.declared.stage.Stage.{Stage}
 use Rattle.vcall_fork.specs.declared.stage.Stage.TheVariants.{At as ConformsAt, Over}
 use Rattle.vcall_fork.specs.Stops.{turn_at, is_wanted, passes_by, Misses, Stopped, EndedBefore, CameAt, CameToEnd}
 
--- at a point, the number of attempts that have begun is the number of the point's attempt
+-- at `point` of the attempt `turn`, the number of attempts that have begun is the number of `turn`
 turn_is : (turn : Turn) (point : Point) → turn_at (turns_before turn point) point ≡ turn_number turn
 turn_is First Start = refl
 turn_is First Written = refl
@@ -72,8 +72,8 @@ module _ (turn : Turn) (point : Point) where
       Some begun
   quiet begun xs none = ap (passes_by turn point begun) none
 
-  -- let the steps `xs` not reach the wanted point, let `p` after them be another point, and let `ys` have no point.
-  -- Then all these steps together do not reach the wanted point
+  -- if the steps `xs` do not reach the wanted point, the point `p` after them is another one, and `ys` has no point,
+  -- then `xs`, `p` and `ys` together do not reach the wanted point
   point_on : (begun : ℕ) (t : Turn) (p : Point) (wiped : Bool) (xs ys : List HostStep) →
       passes_by turn point begun (points_of xs) ≡ Some (turns_before t p) →
       is_wanted turn point (turn_number t) p ≡ false → points_of ys ≡ [] →
@@ -88,8 +88,8 @@ module _ (turn : Turn) (point : Point) where
 
   module _ {H : Type 0} (host : Doings H) (floor : H → ℕ) (From : List HostStep → Outcome → Type 0) (n flags : ℕ)
       (begun look : ℕ) where
-    -- a call came to a place without reaching the wanted point before. The place has the generation that the call last
-    -- found published
+    -- a call came to the place `at`, and did not reach the wanted point before. `at` has the generation that the call
+    -- last found published
     pub record Walked (at : Place) (h next : H) (s : VgetrandomState) (buf : List ℕ) : Type 0 where
       pub leads : Leads host floor From (AtPlace n flags at buf s) h next
       pub passes : passes_by turn point begun (points_of leads.steps) ≡ Some (turns_before at.turn at.point)
@@ -154,7 +154,7 @@ module _ (turn : Turn) (point : Point) where
           ∙ passes_on begun begun (points_of xs) (points_of ys) (quiet begun xs none)
           ∙ ap (λ (k : ℕ). passes_by turn point k (points_of ys)) (sym turns) ∙ misses.passes
 
-      -- if a call came to its first place, and from that place to the wanted point, the call is stopped at that point
+      -- if a call came to the place `at`, and from there to the wanted point at `place`, it is stopped at that point
       pub stops : (place : Place) (last : H) (u : VgetrandomState) (buf_then : List ℕ) (stage : Stage) →
           stage ≡ ConformsAt place →
           (looks calls : ℕ) →
@@ -192,7 +192,7 @@ module _ (turn : Turn) (point : Point) where
         };
       }
 
-    -- a call that ended before any point ended before the wanted one
+    -- a call that ended before it reached any point ended before it reached the wanted point
     pub ends_at_once : (result : Result VEnd Errno) (h last : H) (u : VgetrandomState) (buf : List ℕ) (stage : Stage) →
         stage ≡ Over → CameTo host floor From n flags look (Ended result) h last u buf →
         EndedBefore host floor From turn point begun stage result h last u buf

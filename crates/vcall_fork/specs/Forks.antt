@@ -1,4 +1,5 @@
--- A call that was forked at a point: the rest of the parent's call, and the rest of the child's call.
+-- A vgetrandom call during which the process forked, at a point: the rest of the parent's call, and of the child's
+-- call.
 use Rattle.std.specs.Prelude.{ℕ, ◌≡◌, ◌≢◌, ◌≤◌, ◌==◌, ◌&&◌, ◌||◌, Bool, true, false, List, [], ◌∷◌, ◌++◌, if◌then◌else◌}
 use Rattle.key_names.specs.declared.entries.VEntry.{VEntry}
 use Rattle.key_names.specs.declared.entries.VEntry.TheVariants.{Wipe}
@@ -41,7 +42,7 @@ ForksAreRecorded = (stage : Stage) (held : List ℕ) (s : VgetrandomState) (n fl
     LeadsTo stage held s n flags place out t before entries →
     ForkIsRecorded stage held s n flags place out t before entries
 
--- whether a key was read in the last attempt of these steps; `taken` is whether a key was read before these steps
+-- whether a key was read in the last attempt of the given steps; `taken` is whether a key was read before these steps
 abbrev pub takes_key : Bool → List HostStep → Bool
 takes_key taken [] = taken
 takes_key taken (publishes g ∷ steps) = takes_key taken steps
@@ -56,8 +57,8 @@ ChildTakesKey = (n flags : ℕ) (place : Place) (out : List ℕ) (steps : List H
     (high : ℕ) (bytes : List ℕ) → AfterPlace n flags place out wiped_state steps outcome → 1 ≤ place.published →
     Climbs place.published high steps → outcome.ending ≡ by_batch bytes → takes_key false steps ≡ true
 
--- in a lawful book the states of two callers never use the same byte of a key, so no byte comes out of both the
--- parent's state and the child's
+-- in a lawful book the vgetrandom states of two callers never use the same byte of a key's keystream, so no byte comes
+-- out of both the parent's state and the child's
 abbrev pub ForksShareNothing : Type 0
 ForksShareNothing = (lists : Lists) → LawfulBook lists →
     (parent child : ℕ) (parents_state childs_state parents_place childs_place : ℕ) → parent ≢ child →

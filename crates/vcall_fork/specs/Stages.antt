@@ -14,7 +14,7 @@ is_stopped New = false
 is_stopped (At place) = true
 is_stopped Over = false
 
--- the generation that was read last, or `other` if none was read
+-- the generation that the call read last, or `other` if it read none
 abbrev pub published_or : ℕ → Stage → ℕ
 published_or other New = other
 published_or other (At place) = place.published
@@ -31,7 +31,7 @@ calls_needed New = 3
 calls_needed (At place) = calls_for place.turn place.point
 calls_needed Over = 0
 
--- the number of the next block; `block_limit` is an upper bound on this number
+-- the number of the block that the call uses next; `block_limit` is an upper bound on this number
 abbrev pub block_of : Stage → ℕ
 block_of New = 0
 block_of (At place) = place.next_block
@@ -42,7 +42,7 @@ block_limit New = 0
 block_limit (At place) = copies_by place.turn place.point * (2 ^ 14 + 2)
 block_limit Over = 0
 
--- how many attempts began
+-- how many attempts of the call began
 abbrev pub turns_begun : Stage → ℕ
 turns_begun New = 0
 turns_begun (At place) = turn_number place.turn

@@ -1,4 +1,4 @@
--- A call that goes on from a stop, to a point or to its end.
+-- A vgetrandom call that was stopped at a point, or is new, and goes on to a later point or to its end.
 use Rattle.std.specs.Prelude.{ℕ, suc, ◌≡◌, ◌==◌, ◌&&◌, Bool, true, Option, Some, None, Result, List, [], ◌∷◌, if◌then◌else◌}
 use Rattle.key_names.specs.declared.errno.Errno.{Errno}
 use Rattle.key_names.specs.declared.point.Point.{Point}
@@ -20,8 +20,8 @@ use Rattle.vcall_fork.specs.declared.stage.Progress.TheVariants.{At, Ended}
 use Rattle.vcall_fork.specs.declared.stage.Stage.{Stage}
 use Rattle.vcall_fork.specs.declared.stage.Stage.TheVariants.{New, At as ConformsAt, Over}
 
--- the rest of a call for n bytes on a state, with `out` in the buffer: the whole call, or the part after the point at
--- which the call stopped
+-- the rest of a call for `n` bytes on the state `s`, with `out` in the buffer: the whole call if it is new, or the part
+-- after the point at which the call stopped
 abbrev pub RestOfCall : Stage → ℕ → ℕ → List ℕ → VgetrandomState → List HostStep → Outcome → Type 0
 RestOfCall New n flags out s steps outcome = IsCall n flags s steps outcome
 RestOfCall (ConformsAt place) n flags out s steps outcome = AfterPlace n flags place out s steps outcome
@@ -35,22 +35,22 @@ turn_at begun point = if is_same_point point Start then suc begun else begun
 abbrev pub is_wanted : Turn → Point → ℕ → Point → Bool
 is_wanted turn point now here = now == turn_number turn && is_same_point here point
 
--- how many attempts have begun after these points, or `None` if the points include this point of this attempt
+-- how many attempts have begun after the given points, or `None` if they include `point` of the attempt `turn`
 abbrev pub passes_by : Turn → Point → ℕ → List PointReached → Option ℕ
 passes_by turn point begun [] = Some begun
 passes_by turn point begun (reached ∷ points) =
     let now = turn_at begun reached.point in
     if is_wanted turn point now reached.point then None else passes_by turn point now points
 
--- the steps never reach this point of this attempt
+-- `steps` never reach `point` of the attempt `turn`
 pub record Misses (turn : Turn) (point : Point) (begun : ℕ) (steps : List HostStep) : Type 0 where
   pub following : ℕ
   pub passes : passes_by turn point begun (points_of steps) ≡ Some following
 
 module _ {H : Type 0} (host : Doings H) (floor : H → ℕ) where
-  -- the call, which last found `look` published, is stopped at this point of this attempt, before the host's step
-  -- there. `place` records the generation that the call found last: the last look of the steps, or else `look`. A host
-  -- with these looks and system calls left can serve the rest of the call
+  -- the call, which last found `look` published, is stopped at `point` of the attempt `turn`, before the host's step at
+  -- that point. `place` records the generation that the call found last: the last look of the steps, or else `look`. A
+  -- host with `looks` looks and `calls` system calls left can serve the rest of the call
   pub record Stopped (From : List HostStep → Outcome → Type 0) (n flags : ℕ) (turn : Turn) (point : Point)
       (begun look : ℕ) (stage : Stage) (looks calls : ℕ) (h next : H) (s : VgetrandomState)
       (buf : List ℕ) : Type 0 where
@@ -63,7 +63,7 @@ module _ {H : Type 0} (host : Doings H) (floor : H → ℕ) where
     pub misses : Misses turn point begun leads.steps
     pub found : place.published ≡ last_look look leads.steps
 
-  -- the call ended before this point
+  -- the call ended before it reached `point` of the attempt `turn`
   pub record EndedBefore (From : List HostStep → Outcome → Type 0) (turn : Turn) (point : Point) (begun : ℕ)
       (stage : Stage) (result : Result VEnd Errno) (h last : H) (s : VgetrandomState) (buf : List ℕ) : Type 0 where
     pub over : stage ≡ Over
@@ -77,7 +77,7 @@ module _ {H : Type 0} (host : Doings H) (floor : H → ℕ) where
   RanTo From n flags turn point begun look stage (Ended result) looks calls h last s buf =
       EndedBefore From turn point begun stage result h last s buf
 
-  -- from a place on, the call came to this point of this attempt
+  -- the call, whose steps and outcome `From` defines, came to `place`, which is `point` of the attempt `turn`
   pub record CameAt (From : List HostStep → Outcome → Type 0) (n flags : ℕ) (turn : Turn) (point : Point)
       (begun look : ℕ) (place : Place) (looks calls : ℕ) (h next : H) (s : VgetrandomState)
       (buf : List ℕ) : Type 0 where
@@ -87,7 +87,7 @@ module _ {H : Type 0} (host : Doings H) (floor : H → ℕ) where
     pub wanted : is_wanted turn point (turn_number place.turn) place.point ≡ true
     pub may : MayGoOn place looks calls (floor next)
 
-  -- the call ended before this point
+  -- the call ended before it reached `point` of the attempt `turn`
   pub record CameToEnd (From : List HostStep → Outcome → Type 0) (turn : Turn) (point : Point) (begun : ℕ)
       (result : Result VEnd Errno) (h last : H) (s : VgetrandomState) (buf : List ℕ) : Type 0 where
     pub ends : Ends host floor From h last (record { state = s; result = result; buf = buf })

@@ -16,8 +16,8 @@ use vdso_state::{
     Came, Place, Point, Turn, VEnd, VHost, VState, begin, finish, resume, vgetrandom,
 };
 
-/// A call of vgetrandom, without its state and its buffer. The state and the buffer belong to the caller, and a forked
-/// call has its own.
+/// A call of vgetrandom, without its state and its buffer. The state and the buffer belong to the caller, and after a
+/// fork the child has its own.
 #[derive(Clone, Copy, Debug)]
 pub struct VCall {
     /// The number of bytes that the call reads, at most 2^20.
@@ -29,14 +29,14 @@ pub struct VCall {
     ghost ready: { 1 ≤ published_or 1 stage },
 }
 
-// Whether the call has to stop at this place.
+// Whether the call has to stop at `place`: it is `point` of `attempt`.
 fn is_at(place: Place, attempt: Turn, point: Point) -> bool
     ensures { result ≡ is_wanted attempt point (turn_number place.turn) place.point }
 {
     place.turn == attempt && place.point == point
 }
 
-// Runs from a place to a point of an attempt, or to the end of the call.
+// Runs the call from `place` to a point of an attempt, or to the end of the call.
 fn until<H: VHost>(
     host: &mut H,
     st: &mut VState,
@@ -78,7 +78,7 @@ impl VCall {
         }
     }
 
-    // Runs to the next point, or to the end if the call reaches no other point.
+    // Runs the call to its next point, or to its end if it reaches no other point.
     fn go_on<H: VHost>(&self, host: &mut H, st: &mut VState, buf: &mut [u8]) -> Came
         requires open { is_open self.now.stage ≡ true }
         requires length { length buf.old ≡ self.now.len }
@@ -149,8 +149,8 @@ impl VCall {
         }
     }
 
-    /// Forks the call at its point. Returns the child's call and the child's state, which the fork wiped, and copies
-    /// `buf` into `child_buf`. The parent's call, state and buffer do not change.
+    /// Forks the process at the point where the call is stopped. Returns the child's call and the child's state, which
+    /// the fork wiped, and copies `buf` into `child_buf`. The parent's call, state and buffer do not change.
     pub fn fork_call(&self, buf: &[u8], child_buf: &mut [u8]) -> (VCall, VState)
         requires stopped { is_stopped self.now.stage ≡ true }
         requires length { length buf.now ≡ self.now.len }

@@ -1,4 +1,4 @@
-//! The laws of forked calls, each as the contract of a function without code.
+//! The laws of forks inside vgetrandom calls, each as the contract of a function without code.
 ghost use Rattle.vcall_fork.specs.Forks.{ForksAreRecorded, ChildTakesKey, ForksShareNothing};
 
 /// A fork at a point does not change the parent's call. The child's call has the parent's steps before the point, a
@@ -12,7 +12,8 @@ pub fn child_takes_key()
     ensures { ChildTakesKey }
 {}
 
-/// In a lawful book the states of two callers never use the same byte of a key. A parent and its child are two callers.
+/// In a lawful book the vgetrandom states of two callers never use the same byte of a key's keystream. A parent and its
+/// child are two callers.
 pub fn forks_share_nothing()
     ensures { ForksShareNothing }
 {}

@@ -35,7 +35,8 @@
 //! - [`laws::forks_are_recorded`]: the child's call is a call whose state was wiped at the point of the fork.
 //! - [`laws::child_takes_key`]: if the child's bytes come out of its state, the attempt that gave them read a new key
 //!   after the fork.
-//! - [`laws::forks_share_nothing`]: in a lawful book the states of two callers never use the same byte of a key.
+//! - [`laws::forks_share_nothing`]: in a lawful book the vgetrandom states of two callers never use the same byte of a
+//!   key's keystream.
 //!
 //! # Tested only
 //!

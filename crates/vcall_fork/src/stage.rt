@@ -1,9 +1,9 @@
-//! The stages of a call.
+//! The stages of a vgetrandom call: new, stopped at a point, or over.
 
 use key_names::Errno;
 use vdso_state::{Place, VEnd};
 
-/// The stage of a call.
+/// The stage of a vgetrandom call.
 #[derive(Clone, Copy, Debug, PartialEq, Eq)]
 pub enum Stage {
     /// The call has made no step yet.

@@ -1,4 +1,5 @@
--- For each case of specs/VreadActs, the entries of the lanes. With them the prover computes that the case holds.
+-- For each case of specs/VreadActs, the entries of the pool, the base and the CPUs. From them the prover computes that
+-- the case holds.
 use Rattle.std.proofs.Common.{[], ◌∷◌, refl, Some, None}
 use Rattle.key_names.specs.declared.entries.Taken.TheVariants.{User}
 use Rattle.key_names.specs.declared.entries.PoolEntry.TheVariants.{Mix, Extract}

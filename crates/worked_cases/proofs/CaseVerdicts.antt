@@ -1,4 +1,4 @@
--- A case holds if the verdicts computed for it and for its near misses are the expected numbers.
+-- A case holds if the verdicts computed for it and for its near misses (changed transcripts) are the expected numbers.
 use Rattle.std.proofs.Common.{◌≡◌, ℕ, List, [], ◌∷◌, map}
 use Rattle.std.specs.List.{AllByRecursion}
 use Rattle.key_names.specs.Transcripts.IsTranscript.{clause_number}
@@ -13,7 +13,7 @@ miss_verdict case lanes miss = text_verdict case.script (transcript_with (lines_
 abbrev number_missed : NearMiss → ℕ
 number_missed miss = clause_number (clause_missed miss)
 
--- the verdict on the case, and then the verdicts on its near misses
+-- the verdict on the transcript of `case`, and then the verdicts on its near misses, each as a number
 unfoldable pub verdicts : Case → Lanes → List ℕ
 unfolding text_verdict
 verdicts case lanes = text_verdict case.script (transcript_with case.lines) lanes ∷ map (miss_verdict case lanes)

@@ -35,7 +35,7 @@ at_most a b = by_test (leb a b) (most_if a b) (more_if a b)
 abbrev pub below : (a b : ℕ) → Decided (a < b)
 below a b = at_most (suc a) b
 
--- ---- one from others
+-- ---- Decisions made from other decisions
 
 abbrev pub both : {P Q : Type 0} → Decided P → Decided Q → Decided (P × Q)
 both (yes p) (yes q) = yes (p, q)
@@ -66,7 +66,7 @@ abbrev pub each : {X : Type 0} {P : X → Type 0} → ((x : X) → Decided (P x)
 each d [] = yes tt
 each d (x ∷ xs) = both (d x) (each d xs)
 
--- ---- equality
+-- ---- Deciding whether two values are equal
 
 pub no_first : {X : Type 0} (y : X) (ys : List X) → [] ≡ y ∷ ys → ⊥
 no_first y ys e = cc
@@ -112,7 +112,7 @@ same_bool false true = no (λ e. true_is_not_false (sym e))
 abbrev pub same_bytes : (xs ys : List ℕ) → Decided (xs ≡ ys)
 same_bytes = same_list same_number
 
--- ---- facts that may be found
+-- ---- A decision as a proof or none
 
 -- a proof of `P`, if `P` holds
 abbrev pub found : {P : Type 0} → Decided P → Option P

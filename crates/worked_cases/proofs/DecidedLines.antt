@@ -1,4 +1,4 @@
--- The clauses on lines, answers and data, decided by computing.
+-- The clauses on a transcript's lines, answers and data, decided by computing.
 use Rattle.std.proofs.Common.{◌≡◌, ℕ, suc, List, [], ◌∷◌, refl, sym, ap}
 use Rattle.key_names.specs.declared.events.Event.{Event}
 use Rattle.key_names.specs.declared.events.Word.{Word}

@@ -1,4 +1,5 @@
--- The clauses on marks and looks, decided by computing.
+-- The clauses on a transcript's marks (each visit's lane, place and stamp) and looks (reads of the generation), decided
+-- by computing.
 use Rattle.std.proofs.lemmas.Bool.Decides.{nat_tests}
 use Rattle.std.proofs.Common.{◌≡◌, ◌<◌, ◌≤◌, ℕ, zero, suc, Bool, true, false, leb, Option, Some, None, List, [], ◌∷◌}
 use Rattle.std.proofs.Common.{◌++◌}
@@ -24,7 +25,7 @@ places_conform marks = likewise (λ h. record { once = h.0; rise = h.1 }) (λ p.
     (each (λ place. same_number (count_by (λ mark. mark.place == place) marks) 1) (range_with_len 0 (length marks)))
     (each (λ a. each (λ b. implied (below a.place b.place) (below a.stamp b.stamp)) marks) marks))
 
--- ---- every CPU
+-- ---- The marks of every CPU
 
 abbrev CpuBelow : ℕ → LaneId → Type 0
 CpuBelow n (CpuLane c) = c < n
@@ -87,8 +88,8 @@ by_lane marks n all pool base cpus (CpuLane c) = by (leb n c) refl
         (record { once = tt; rise = tt })
     by false e = cpus c (let lt : c < n = grind (arith, nat_tests) in lt)
 
--- if `n` is above the number of each CPU that has a mark, decides whether the places of all lanes conform; otherwise
--- the result is none
+-- if `n` is above the number of each CPU that has a mark, decides whether the places of all lanes meet `PlacesConform`;
+-- otherwise the result is none
 abbrev lanes_from : (marks : List MarkBy) (n : ℕ) → Decided (AllByRecursion (λ by. CpuBelow n by.mark.lane) marks) →
     Option (Decided ((lane : LaneId) → PlacesConform (lane_marks lane marks)))
 lanes_from marks n (no p) = None
@@ -110,7 +111,7 @@ marks_conform script t = found_by (λ lanes. likewise (λ h. record { lanes = h.
     (lanes_from (all_marks t) (cpu_bound (all_marks t))
     (each (λ by. cpu_below (cpu_bound (all_marks t)) by.mark.lane) (all_marks t)))
 
--- ---- looks
+-- ---- Looks: reads of the generation
 
 abbrev look_conforms : (reseeds before : ℕ) (effect : Effect) → Decided (LookConforms reseeds before effect)
 look_conforms reseeds before (looked g) = both (at_most before g) (at_most g reseeds)

@@ -1,5 +1,5 @@
--- Computes a proof that the effects of a line's steps are a form of the line's event. The result is none if no form is
--- found.
+-- Computes a proof that the effects of a line's steps are a form (an allowed pattern) of the line's event. The result
+-- is none if no form is found.
 use Rattle.std.proofs.Common.{◌≡◌, ℕ, Bool, true, false, Option, Some, None, List, [], ◌∷◌, refl, ◌==◌}
 use Rattle.std.specs.Prelude.{not, ◌&&◌}
 use Rattle.key_names.specs.declared.entries.Taken.{Taken}
@@ -133,7 +133,7 @@ stalled child (at_base f ∷ at_base s ∷ at_base u ∷ []) =
     (same_base f.entry (Forked child)) (same_base s.entry Stall) (same_base u.entry Unstall)
 stalled child _ = None
 
--- the bytes and bits of a pool entry that mixes
+-- the bytes that a `Mix` entry of the pool mixes, and the bits that it credits; none for any other entry
 abbrev mix_of : PoolEntry → List ℕ × ℕ
 mix_of (Mix text bits) = (text, bits)
 mix_of _ = ([], 0)
@@ -207,7 +207,7 @@ vmfork_found set word text (at_pool p ∷ rest) =
     (same_pool p.entry (device_entry word text)) (after_look (reseed_found set) rest)
 vmfork_found set word text _ = None
 
--- a proof that the effects are a form of this event, or none
+-- a proof that `effects` are a form of `event`, or none
 abbrev pub form_found : (set : Setting) (event : Event) (effects : List Effect) → Option (Form set event effects)
 form_found set (Write text) effects = pool_only (Mix text 0) effects
 form_found set (Device word text) effects = pool_only (device_entry word text) effects

@@ -1,4 +1,5 @@
--- Computes a proof that the lanes' lists are lawful. The result is none if no proof is found.
+-- Computes a proof that the lists of the pool, the base and the CPUs are lawful. The result is none if no proof is
+-- found.
 use Rattle.std.proofs.Common.{◌≡◌, ◌≢◌, ◌↔◌, ℕ, zero, suc, false, Option, Some, None, List, [], ◌∷◌, refl, ap, subst}
 use Rattle.std.proofs.Common.{slice_get}
 use Rattle.std.specs.Prelude.{option_and_then}
@@ -25,7 +26,7 @@ abbrev list_found : {S E : Type 0} {May : S → E → Type 0} (step : S → E �
 list_found step d s [] = Some tt
 list_found step d s (e ∷ es) = found_pair (d s e) (list_found step d (step s e) es)
 
--- ---- the base
+-- ---- The list of the base
 
 abbrev same_phase : (a b : Phase) → Option (a ≡ b)
 same_phase empty empty = Some refl
@@ -76,7 +77,7 @@ base_found pool base =
     (root_found pool s (root_of e)))
     base_start base
 
--- ---- a CPU
+-- ---- The list of a CPU
 
 abbrev iff : {P Q : Type 0} → Decided P → Decided Q → Option (P ↔ Q)
 iff (yes p) (yes q) = Some ((λ x. q), (λ x. p))
@@ -129,15 +130,15 @@ cpu_found base c es = list_found (cpu_step base c)
     (λ s e. found_both (λ f r. record { fits = f; refill = r }) (cpu_fits s e) (refill_conforms base c s.place e))
     cpu_start es
 
--- ---- all lanes
+-- ---- The lists of all lanes
 
 pub at_number : {E : Type 0} (P : ℕ → List E → Type 0) (es : List E) (lists : List (List E)) → P 0 es →
     ((c : ℕ) → P (suc c) (list_at lists c)) → (c : ℕ) → P c (list_at (es ∷ lists) c)
 at_number P es lists here later zero = here
 at_number P es lists here later (suc c) = later c
 
--- a proof that `P` holds of each list and its number, and of the empty list and each later number; none if one of the
--- proofs is not found
+-- a proof that `P` holds of each of `lists` with its number, and of the empty list with each later number; none if one
+-- of these proofs is not found
 abbrev pub each_list : {E : Type 0} (P : ℕ → List E → Type 0) → ((c : ℕ) → P c []) →
     ((c : ℕ) (es : List E) → Option (P c es)) →
     (lists : List (List E)) → Option ((c : ℕ) → P c (list_at lists c))
@@ -164,8 +165,8 @@ abbrev named : {N : Type 0} (Q : N → Type 0) → ((n : N) → Option (Q n)) �
 named Q d None = Some (λ n e. absurd (none_is_not_some n e))
 named Q d (Some m) = found_by (λ q n e. at_name Q m n q e) (d m)
 
--- a proof that `Q` holds of the place and the name of each entry that contains a name; none if one of the proofs is not
--- found
+-- a proof that `Q` holds of the place and the name of each entry of `es` that contains a name; none if one of these
+-- proofs is not found
 abbrev pub each_name : {E N : Type 0} (name : E → Option N) (Q : ℕ → N → Type 0) → ((p : ℕ) (n : N) → Option (Q p n)) →
     (es : List E) → Option ((p : ℕ) (n : N) → option_and_then name (slice_get es p) ≡ Some n → Q p n)
 each_name name Q d [] = Some (λ p n e. absurd (no_entry name p n e))

@@ -1,5 +1,5 @@
--- Computes the meanings of a caller's calls from the caller's lines and the lanes' lists. The result is none if no
--- meaning is found for a call.
+-- Computes the meanings of a caller's calls (effects, answers and data) from the caller's lines and the lanes' lists.
+-- The result is none if no meaning is found for a call.
 use Rattle.std.proofs.Common.{◌≡◌, ℕ, Bool, true, false, Option, Some, None, List, [], ◌∷◌, refl, sym, ◌∙◌, ap, subst}
 use Rattle.std.specs.Prelude.{MatchBool}
 use Rattle.key_names.specs.declared.events.Event.{Event}
@@ -30,7 +30,7 @@ use Rattle.worked_cases.proofs.FoundVreads.{HostFound, vgetrandom_found}
 abbrev pub After : Lists → SeenLine → LineMeaning → Type 0
 After lists line m = effects_of lists line.steps ≡ m.effects
 
--- `m` is a meaning of the call; in `m` the caller has this state before the call
+-- `m` is a meaning of `call`; in `m` the caller has the state `before` when the call begins
 pub record CallFound (lists : Lists) (before : CallerState) (call : Call) : Type 0 where
   pub m : CallMeaning
   pub begins : m.before ≡ before
@@ -136,7 +136,7 @@ acts_found lists set reached (bound ∷ acts) = found_both (λ b a. record {
   effects = (b.effects, a.effects);
 }) (bound_found lists set (reached bound) bound) (acts_found lists set reached acts)
 
--- ---- a vread
+-- ---- A `vread` with its acts
 
 abbrev wipes_found : (acts : List BoundAct) (points : List PointReached) → Option (WipesConform acts points)
 wipes_found acts points = found_both (λ f s. record { first = f; second = s })
@@ -148,7 +148,7 @@ never_fall [] = Some tt
 never_fall (a ∷ []) = Some tt
 never_fall (a ∷ b ∷ rest) = found_both (λ p q. (p, q)) (found (at_most a b)) (never_fall (b ∷ rest))
 
--- `m` is a meaning of a vread of the kind `DoneBy`: a copy, or a vgetrandom call
+-- `m` is a meaning of a `vread` that was done in the way `DoneBy`: by a copy from the batch, or by a vgetrandom call
 pub record WayFound (lists : Lists) (before : CallerState) (acts : List BoundAct) (line : SeenLine)
     (DoneBy : CallMeaning → Type 0) : Type 0 where
   pub m : CallMeaning
@@ -195,7 +195,7 @@ by_vgetrandom lists before n flags acts line =
       };
     }) (wipes_found acts (points_of h.steps)) (acts_found lists before.setting (is_reached (points_of h.steps)) acts)
 
--- the effects begin with a look
+-- `effects` begin with a look, and `rest` follow
 pub record LookFound (effects : List Effect) : Type 0 where
   pub look : ℕ
   pub rest : List Effect

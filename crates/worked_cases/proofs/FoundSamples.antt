@@ -1,4 +1,5 @@
--- Computes a proof that the samples of a book are lawful. The result is none if no proof is found.
+-- Computes a proof that the interrupts and dumps of a book are lawful (`LawfulSamples`). The result is none if no proof
+-- is found.
 use Rattle.std.proofs.Common.{◌≡◌, ◌<◌, ℕ, zero, suc, true, Option, Some, None, List, [], ◌∷◌, refl, sym, ◌∙◌, ap}
 use Rattle.std.proofs.Common.{slice_get}
 use Rattle.std.specs.Prelude.{option_and_then}
@@ -36,7 +37,7 @@ same_event a b = both (same_number a.caller b.caller) (same_number a.event b.eve
 
 -- ---- places of a list
 
--- `R` holds of each place and the entry at that place
+-- `R` holds of each place of the list `es` and the entry at that place
 abbrev EachAt : {E : Type 0} → (ℕ → E → Type 0) → List E → Type 0
 EachAt {E} R es = (k : ℕ) (e : E) → option_and_then Some (slice_get es k) ≡ Some e → R k e
 
@@ -44,7 +45,7 @@ abbrev each_at : {E : Type 0} (R : ℕ → E → Type 0) → ((k : ℕ) (e : E) 
     Option (EachAt R es)
 each_at R d es = each_name Some R d es
 
--- a place of the list, the entry at that place, and a proof that `R` holds of both
+-- a place of the list `es`, the entry at that place, and a proof that `R` holds of both
 pub record Place {E : Type 0} (R : ℕ → E → Type 0) (es : List E) : Type 0 where
   pub at : ℕ
   pub entry : E

@@ -1,5 +1,5 @@
--- Computes, from the effects of a vgetrandom call's line, steps of the host that lead to an outcome. The result is none
--- if no such steps are found.
+-- Computes, from the effects of a vgetrandom call's line, steps of the host (what the call asks for generations and
+-- system calls) that lead to an outcome. The result is none if no such steps are found.
 use Rattle.std.proofs.Common.{◌≡◌, ℕ, Bool, true, false, Option, Some, None, List, [], ◌∷◌, ◌++◌, refl, sym, append-nil}
 use Rattle.std.proofs.Common.{◌==◌}
 use Rattle.std.specs.Prelude.{MatchBool}
@@ -19,14 +19,14 @@ use Rattle.key_names.proofs.Vgetrandom.Attempts.{current_attempt, current_steps,
 use Rattle.worked_cases.proofs.Decided.{found_by, found_both}
 use Rattle.worked_cases.proofs.FoundForms.{no_steps, system_call_found}
 
--- the effects show steps of a host that lead to an outcome
+-- the host's `steps` lead to `outcome`, and `effects` are the effects of these steps
 pub record HostFound (set : Setting) (Leads : List HostStep → Outcome → Type 0) (effects : List Effect) : Type 0 where
   pub steps : List HostStep
   pub outcome : Outcome
   pub leads : Leads steps outcome
   pub shows : Shows set steps effects
 
--- the effects begin with an attempt
+-- `effects` begin with those of one attempt of a vgetrandom call, and `rest` follow
 pub record AttemptFound (set : Setting) (n c : ℕ) (s : VgetrandomState) (effects : List Effect) : Type 0 where
   pub steps : List HostStep
   pub attempt : Attempt
@@ -65,7 +65,7 @@ nothing_found set s effects = found_by (λ none. record {
   shows = none;
 }) (no_steps effects)
 
--- ---- attempts
+-- ---- The attempts of a vgetrandom call
 
 pub record IsRead (answer : SystemAnswer) : Type 0 where
   pub key : List ℕ
@@ -137,8 +137,8 @@ attempt_found set n c wiped s (looked g ∷ effects) = by ((state_left (wiped St
     by false e = keyed_found set n c g wiped s e effects
 attempt_found set n c wiped s _ = None
 
--- finds the steps after an attempt: no steps if the attempt ended with `holds`, and those of `again` if it ended with
--- `outdated`
+-- finds the steps after an attempt: no steps if the attempt ended with `holds`, and those of the last argument if it
+-- ended with `outdated`
 abbrev after_found : (set : Setting) (n flags : ℕ) (Outdated : ℕ → VgetrandomState → List HostStep → Outcome → Type 0)
     (end : AttemptEnd) (attempt : Attempt) (effects : List Effect) →
     Option (HostFound set (Outdated attempt.next_block attempt.state) effects) →
@@ -189,7 +189,7 @@ first_found set n flags wiped s effects = tried (attempt_found set n 0 wiped s e
     (λ a. attempt_and_rest set n flags 0 s effects (SecondAttempt n flags) a
     (second_found set n flags a.attempt.next_block a.attempt.state a.rest))
 
--- ---- the whole call
+-- ---- A whole vgetrandom call
 
 abbrev published_found : (set : Setting) (n flags g : ℕ) (wiped : Point → Bool) (s : VgetrandomState)
     (effects : List Effect) →

@@ -1,4 +1,5 @@
--- For each case of specs/Generators, the entries of the lanes. With them the prover computes that the case holds.
+-- For each case of specs/Generators, the entries of the pool, the base and the CPUs. From them the prover computes that
+-- the case holds.
 use Rattle.std.proofs.Common.{[], ◌∷◌, ◌++◌, refl, Some, None, replicate, true, false}
 use Rattle.key_names.specs.declared.entries.Taken.TheVariants.{User, Kernel}
 use Rattle.key_names.specs.declared.entries.PoolEntry.TheVariants.{Mix, Extract}

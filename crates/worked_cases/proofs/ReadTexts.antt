@@ -16,7 +16,7 @@ use Rattle.key_names.specs.Texts.ScriptFaults.{parts, word_of, bytes_of}
 use Rattle.key_names.specs.Transcripts.SeenLine.{SeenLine, Shown, no_data, bytes, count}
 use Rattle.key_names.specs.Texts.TranscriptGrammar.{answer_text}
 
--- the two numbers of a field, with a byte between them
+-- the two numbers of `field`, which `byte` separates
 abbrev two_numbers : ℕ → List ℕ → ℕ × ℕ
 two_numbers byte field = of_parts (parts byte field)
   where
@@ -82,7 +82,7 @@ inner (first ∷ lines) = but_two lines
     but_two (a ∷ b ∷ []) = []
     but_two (a ∷ b ∷ c ∷ rest) = a ∷ but_two (b ∷ c ∷ rest)
 
--- the lines of the text, grouped by caller, for this many callers
+-- the lines of `text`, grouped by caller, for the callers from 0 to `callers - 1`
 abbrev pub lines_of : ℕ → List ℕ → List (List SeenLine)
 lines_of callers text =
     let lines = map line_of (inner (parts 10 text)) in

@@ -1,4 +1,5 @@
--- For each case of specs/Readiness, the entries of the lanes. With them the prover computes that the case holds.
+-- For each case of specs/Readiness, the entries of the pool, the base and the CPUs. From them the prover computes that
+-- the case holds.
 use Rattle.std.proofs.Common.{[], ◌∷◌, refl, Some, None}
 use Rattle.std.specs.List.{range_with_len}
 use Rattle.key_names.specs.declared.entries.Taken.TheVariants.{User, Kernel}

@@ -1,4 +1,5 @@
--- For each case of specs/SampleEvents, the entries of the lanes. With them the prover computes that the case holds.
+-- For each case of specs/SampleEvents, the entries of the pool, the base and the CPUs. From them the prover computes
+-- that the case holds.
 use Rattle.std.proofs.Common.{[], ◌∷◌, refl, Some}
 use Rattle.key_names.specs.declared.entries.Taken.TheVariants.{User}
 use Rattle.key_names.specs.declared.entries.PoolEntry.TheVariants.{Mix, Input, Bits, Extract}

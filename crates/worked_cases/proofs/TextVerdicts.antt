@@ -81,7 +81,7 @@ text_found text t = found_three (λ f o s. record { fits = f; own = o; spelled =
     (last_has_lines t)
     (each_found (each_found line_fits) t)) (own_number 0 t) (found (same_bytes text (transcript_text t)))
 
--- ---- both texts
+-- ---- The text of a script and the text of a transcript
 
 abbrev script_or_none : Result Script ScriptFault → Script
 script_or_none (Ok script) = script
@@ -177,7 +177,7 @@ fails_at clause input output (Some f) (first_fails other h) e =
     same h)
 fails_at clause input output (Some f) unknown e = (let two = from_two clause in absurd (omega arith))
 
--- ---- the meaning of a number
+-- ---- What the number of a verdict proves
 
 pub lawful_run : (input output : List ℕ) (lanes : Lanes) → text_verdict input output lanes ≡ 0 → IsLawfulRun input
     output
@@ -191,9 +191,9 @@ unfolding text_verdict
 fails_first clause input output lanes e =
     fails_at clause input output (texts_found input output) (verdict (script_in input) (lines_in input output) lanes) e
 
--- ---- steps that have no form
+-- ---- Steps that have no form (allowed pattern)
 
--- the clauses on lines and marks hold for the texts
+-- `input` is the text of a script, `output` that of a transcript, and the clauses on lines and marks hold for them
 pub record FrontFound (input output : List ℕ) : Type 0 where
   pub texts : TextsFound input output
   pub lines : HasLines (script_in input) (lines_in input output)

@@ -1,4 +1,4 @@
--- The steps of specs/UnfitSteps are no form of their event, whatever entries the lanes have.
+-- The steps of specs/UnfitSteps are no form (allowed pattern) of their event, whatever entries the lanes have.
 use Rattle.std.proofs.Common.{◌≡◌, ◌≤◌, ℕ, suc, Some, List, [], ◌∷◌, refl, sym, ◌∙◌, ap, is_some, true, length}
 use Rattle.std.proofs.Common.{arith, inl, inr, subst, false, ◌++◌}
 use Rattle.std.specs.List.{AllByRecursion}
@@ -27,7 +27,7 @@ use Rattle.worked_cases.proofs.Decided.{no_first, none_is_not_some}
 use Rattle.worked_cases.proofs.FoundMeanings.{After}
 use Rattle.worked_cases.proofs.TextVerdicts.{text_verdict, script_in, lines_in, no_form, front_found}
 
--- the call has a meaning in these lists, with the effects of the call's lines
+-- `call` has a meaning in `lists`, with the effects of the lines of `call`
 pub record CallHas (lists : Lists) (call : Call) : Type 0 where
   pub m : CallMeaning
   pub means : Means call m
@@ -54,7 +54,7 @@ callers_have lists settings first (calls ∷ callers) (m ∷ ms) h = (
 abbrev case_calls : Case → List (List Call)
 case_calls case = script_calls (script_in case.script) (lines_in case.script (transcript_with case.lines))
 
--- the calls of a case have meanings in these lists
+-- all calls of a case have meanings in the given lists
 abbrev CallsHave : Case → Lists → Type 0
 CallsHave case lists = AllByRecursion (AllByRecursion (CallHas lists)) (case_calls case)
 
@@ -105,7 +105,8 @@ visit_of_no_cpu_fails = no_form visit_of_no_cpu.script (transcript_with visit_of
     (front_found visit_of_no_cpu.script (transcript_with visit_of_no_cpu.lines)) refl
     (λ made. no_stamp made.book.cpus _ made.forms.cpus made.forms.visits.conform.1.1.1.1.0)
 
--- the first call of child 1 has a meaning that begins with the states of a new caller, which are wiped
+-- `call`, the first call of child 1, has a meaning that begins with the vgetrandom states of a new caller, which are
+-- wiped
 pub record ChildBegins (lists : Lists) (set : Setting) (call : Call) : Type 0 where
   pub m : CallMeaning
   pub begins : m.before ≡ caller_start set
@@ -131,7 +132,7 @@ no_attempt set rest n flags s outcome attempt shows =
     let looks = subst (λ (h : List HostStep). Shows set h []) begins shows in
     no_first _ _ looks.2
 
--- a vread of 40 bytes has no meaning if its state is wiped and its only effect is a look that finds 1
+-- a `vread` of 40 bytes has no meaning if its state is wiped and its only effect is a look that finds generation 1
 wiped_needs_a_key : (m : CallMeaning) → current_state m.before ≡ wiped_state → looked 1 ∷ [] ≡ m.own.effects →
     VreadMeans 40 0 [] m → ⊥
 wiped_needs_a_key m wiped effects means =

@@ -27,7 +27,7 @@ use Rattle.worked_cases.proofs.FoundSamples.{samples_found}
 use Rattle.worked_cases.proofs.DecidedLines.{has_lines, answers_conform, data_conform}
 use Rattle.worked_cases.proofs.DecidedMarks.{marks_conform, seen_conforms}
 
--- the entries of the lanes
+-- the entries of the pool, of the base and of each CPU
 pub record Lanes : Type 0 where
   pub pool : List PoolEntry
   pub base : List BaseEntry
@@ -37,12 +37,12 @@ pub record Lanes : Type 0 where
 abbrev pub no_hardware : List ℕ
 no_hardware = replicate 32 0
 
--- ---- the book of some entries
+-- ---- The book (the lists of visits) that is made of given entries
 
 abbrev nobody : Who
 nobody = record { caller = 0; event = 0; step = 0 }
 
--- the visit at a place, made of the entry and the mark of that place
+-- the visit at `place` of `lane`, made of its entry and its mark, which is searched in the given marks
 abbrev visit_at : {E : Type 0} → LaneId → ℕ → E → List MarkBy → Visit E
 visit_at lane place e [] = record { stamp = 0; who = nobody; entry = e }
 visit_at lane place e (by ∷ marks) =
@@ -66,7 +66,7 @@ book_with t lanes ms = record {
   callers = map state_lists ms;
 }
 
--- ---- the forms
+-- ---- The clause on forms (allowed patterns of effects)
 
 abbrev same_who : (a b : ℕ × Who) → Decided (a ≡ b)
 same_who a b = likewise
@@ -106,7 +106,7 @@ means_again lists states settings first (calls ∷ callers) (m ∷ ms) h = (
   means_again lists states settings (suc first) callers ms h.1,
 )
 
--- a book of a transcript, and meanings of the transcript's calls
+-- a book for the transcript `t`, and meanings of the calls of `t`, that meet the clause on forms
 pub record FormsFound (script : Script) (t : List (List SeenLine)) : Type 0 where
   pub book : Book
   pub ms : List (List CallMeaning)
@@ -142,9 +142,9 @@ forms_found script t lanes = tried
     (callers_found (lists_of (book_with t lanes [])) (start_setting (script_calls script t)) 0 (script_calls script t))
     (forms_with script t lanes)
 
--- ---- the verdict
+-- ---- The verdict on a transcript
 
--- the transcript is lawful, or this clause is the first that fails, or the computation finds neither
+-- `t` is lawful for `script`, or `clause` is the first that fails, or the computation finds neither
 pub data Verdict (script : Script) (t : List (List SeenLine)) : Type 0 where
   lawful : IsTranscript script t → Verdict script t
   first_fails : (clause : Clause) → FirstFails script t clause → Verdict script t

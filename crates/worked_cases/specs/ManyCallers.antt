@@ -1,4 +1,4 @@
--- Runs of two callers.
+-- Worked cases of two callers.
 use Rattle.std.specs.Prelude.{[], ◌∷◌, ◌++◌, codes}
 use Rattle.key_names.specs.Transcripts.IsTranscript.{answers_clause, data_clause, marks_clause}
 use Rattle.worked_cases.specs.Runs.{Case, left_out, instead, instead_both, one_cpu}

@@ -8,7 +8,7 @@ use Rattle.key_names.specs.declared.entries.VEntry.{VEntry}
 use Rattle.key_names.specs.declared.entries.VEntry.TheVariants.{Rekey, Blocks}
 use Rattle.key_names.specs.Lanes.Book.{Book, Lists}
 
--- two CPUs take the same refill
+-- two CPUs take their key from the same refill (an entry of the base that hands over a key)
 abbrev pub shared_refill : Lists
 shared_refill = record {
   pool = Mix [] 256 ∷ Extract (replicate 32 0) 0 ∷ [];
@@ -36,7 +36,7 @@ two_integers = record {
   callers = [];
 }
 
--- a dump comes without an interrupt
+-- a book with a dump of a CPU's fast pool but without an interrupt
 abbrev pub lone_dump : Book
 lone_dump = record {
   pool = [];
@@ -45,8 +45,8 @@ lone_dump = record {
   callers = [];
 }
 
--- the list of a state that takes a key and makes no batch. `only_blocks` is the list of a state that takes a key,
--- serves whole blocks, and makes no batch
+-- the list of a vgetrandom state that takes a key and makes no batch. `only_blocks` is the list of a vgetrandom state
+-- that takes a key, serves whole blocks, and makes no batch
 abbrev pub only_rekeyed : List VEntry
 only_rekeyed = Rekey 0 0 ∷ []
 

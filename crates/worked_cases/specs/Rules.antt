@@ -18,7 +18,7 @@ timer_at n = (base_after (take n
     (Reseed 0 0 ∷ Tick 999 None ∷ Tick 1000 (Some 1) ∷ Reseed 2 1500 ∷ Tick 1999 None ∷ Tick 2000
     (Some 3) ∷ []))).timer
 
--- the words after this many rounds
+-- the words of SipHash after the given number of rounds
 abbrev pub rounds : ℕ → FastWords → FastWords
 rounds zero s = s
 rounds (suc n) s = rounds n (sip_round s)
@@ -32,6 +32,6 @@ siphash_start = record {
   s3 = bit_xor 0x7465646279746573 0x0f0e0d0c0b0a0908;
 }
 
--- the hash that these words give after four more rounds
+-- the hash that the given words make in SipHash's last four rounds
 abbrev pub finished : FastWords → ℕ
 finished s = let t = rounds 4 (record s { s2 = bit_xor s.s2 0xff }) in bit_xor (bit_xor t.s0 t.s1) (bit_xor t.s2 t.s3)

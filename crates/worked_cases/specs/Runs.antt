@@ -8,7 +8,7 @@ use Rattle.key_names.specs.Texts.ScriptGrammar.{Script, IsScript}
 use Rattle.key_names.specs.Texts.TranscriptGrammar.{IsTranscriptText}
 use Rattle.key_names.specs.Transcripts.IsTranscript.{IsTranscript, FirstFails, Clause, lines_clause}
 
--- the input is the text of a script, and the output is the text of a transcript that is lawful for this script
+-- `input` is the text of a script, and `output` is the text of a transcript that is lawful for this script
 pub record IsLawfulRun (input output : List ℕ) : Type 0 where
   pub script : Script
   pub lines : List (List SeenLine)
@@ -16,8 +16,7 @@ pub record IsLawfulRun (input output : List ℕ) : Type 0 where
   pub lines_are : IsTranscriptText output lines
   pub lawful : IsTranscript script lines
 
--- the input is the text of a script, the output is the text of a transcript, and this clause is the first that fails
--- for them
+-- `input` is the text of a script, `output` is the text of a transcript, and `clause` is the first that fails for them
 pub record FailsFirst (clause : Clause) (input output : List ℕ) : Type 0 where
   pub script : Script
   pub lines : List (List SeenLine)
@@ -42,7 +41,7 @@ lines_with lines (left_out n) = take n lines ++ drop (suc n) lines
 lines_with lines (instead n line clause) = slice_set lines n line
 lines_with lines (instead_both n line m other clause) = slice_set (slice_set lines n line) m other
 
--- the text of a script, near misses, and the lines of the script's transcript without the first and the last line
+-- a worked case: the text of a script, the lines of its transcript without the first and the last line, and near misses
 pub record Case : Type 0 where
   pub script : List ℕ
   pub lines : List (List ℕ)
@@ -51,15 +50,14 @@ pub record Case : Type 0 where
 abbrev pub transcript_with : List (List ℕ) → List ℕ
 transcript_with lines = lined (codes "rngtranscript 1" ∷ lines ++ codes "end" ∷ [])
 
--- the transcript is lawful, and for each near miss the clause given with it is the first that fails
+-- the transcript of `case` is lawful, and for each near miss the clause given with it is the first that fails
 pub record Holds (case : Case) : Type 0 where
   pub lawful : IsLawfulRun case.script (transcript_with case.lines)
   pub near_misses : AllByRecursion
       (λ miss. FailsFirst (clause_missed miss) case.script (transcript_with (lines_with case.lines miss)))
       case.near_misses
 
--- the text of a script of this version and with this number of CPUs; the lines are those between `caller 0` and the
--- last line
+-- the text of a script with the given version and number of CPUs; `lines` are the lines between `caller 0` and `end`
 abbrev pub script_with : List ℕ → List ℕ → List (List ℕ) → List ℕ
 script_with version cpus lines = lined (
     (codes "rngscript " ++ version) ∷ (codes "cpus " ++ cpus) ∷ codes "caller 0" ∷ lines ++ codes "end" ∷ [])

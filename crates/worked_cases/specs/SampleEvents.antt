@@ -1,4 +1,4 @@
--- Interrupts and input events.
+-- Worked cases of interrupts and input events.
 use Rattle.std.specs.Prelude.{[], ◌∷◌, codes}
 use Rattle.key_names.specs.Transcripts.IsTranscript.{answers_clause, data_clause, marks_clause}
 use Rattle.worked_cases.specs.Runs.{Case, left_out, instead, one_cpu}

@@ -1,9 +1,9 @@
--- Transcripts with steps that are no form of their event, whatever entries the lanes have.
+-- Transcripts with steps that are no form (allowed pattern) of their event, whatever entries the lanes have.
 use Rattle.std.specs.Prelude.{[], ◌∷◌, codes, slice_set}
 use Rattle.worked_cases.specs.ManyCallers.{fork_wipes_the_childs_state}
 use Rattle.worked_cases.specs.Runs.{Case, one_cpu}
 
--- a read without its look
+-- a read without its look (a read of the generation)
 abbrev pub read_without_a_look : Case
 read_without_a_look = record {
   script = one_cpu (codes "read 8 1" ∷ []);
@@ -11,7 +11,7 @@ read_without_a_look = record {
   near_misses = [];
 }
 
--- a fork without a visit
+-- a fork that does not visit the base
 abbrev pub fork_without_a_visit : Case
 fork_without_a_visit = record {
   script = one_cpu (codes "fork 1" ∷ codes "caller 1" ∷ []);

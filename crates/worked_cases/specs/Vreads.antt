@@ -1,4 +1,4 @@
--- vgetrandom calls.
+-- Worked cases of vgetrandom calls.
 use Rattle.std.specs.Prelude.{[], ◌∷◌, ◌++◌, codes}
 use Rattle.key_names.specs.Transcripts.IsTranscript.{answers_clause, data_clause, looks_clause, marks_clause}
 use Rattle.worked_cases.specs.Runs.{Case, left_out, instead, one_cpu, script_with}

@@ -4,7 +4,7 @@ ghost use Rattle.worked_cases.specs.Generators.{two_cpus, cpu_255, reseed_timer,
 ghost use Rattle.worked_cases.specs.Generators.{int16_across_readiness_and_reseed, prepare_refills};
 ghost use Rattle.worked_cases.specs.Generators.{vmfork_before_and_after_readiness, int8_batch_of_96};
 
-/// Each CPU is refilled on its own, and again after a reseed.
+/// Each CPU gets a key of its own from the base (a refill), and another one after a reseed.
 #[tactic(auto, using(crate::proofs::GeneratorLanes::two_cpus_holds))]
 pub fn two_cpus()
     ensures { Holds two_cpus }
@@ -28,25 +28,25 @@ pub fn late_interval()
     ensures { Holds late_interval }
 {}
 
-/// Integers before readiness, after it, and after a reseed.
+/// Integers that are read before the core is ready, when it is ready, and after a reseed.
 #[tactic(auto, using(crate::proofs::GeneratorLanes::int16_across_readiness_and_reseed_holds))]
 pub fn int16_across_readiness_and_reseed()
     ensures { Holds int16_across_readiness_and_reseed }
 {}
 
-/// A read refills a CPU that was prepared.
+/// A read on a CPU that was prepared gets the CPU a new key from the base.
 #[tactic(auto, using(crate::proofs::GeneratorLanes::prepare_refills_holds))]
 pub fn prepare_refills()
     ensures { Holds prepare_refills }
 {}
 
-/// A VM fork reseeds a ready core. If the core is not ready, the fork only mixes.
+/// A VM fork reseeds a ready core. If the core is not ready, the fork only mixes bytes into the pool.
 #[tactic(auto, using(crate::proofs::GeneratorLanes::vmfork_before_and_after_readiness_holds))]
 pub fn vmfork_before_and_after_readiness()
     ensures { Holds vmfork_before_and_after_readiness }
 {}
 
-/// A batch of 96 bytes is used up, and the next batch begins.
+/// A CPU's batch of 96 bytes is used up, and the next batch begins.
 #[tactic(auto, using(crate::proofs::GeneratorLanes::int8_batch_of_96_holds))]
 pub fn int8_batch_of_96()
     ensures { Holds int8_batch_of_96 }

@@ -1,8 +1,8 @@
 //! A near miss is refused: for each one, some clause is the first that fails.
 ghost use Rattle.worked_cases.specs.Refusal.{FailsIsRefused};
 
-/// If a clause is the first that fails for a text, the text is not that of a lawful transcript for the same script,
-/// whatever the book.
+/// If a clause is the first that fails for the texts of a script and of a transcript, the transcript is not lawful for
+/// the script, whatever the book (the lists of all visits).
 pub fn near_misses_are_refused()
     ensures { FailsIsRefused }
 {}

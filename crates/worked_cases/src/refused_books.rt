@@ -8,7 +8,7 @@ ghost use Rattle.key_names.specs.Keys.Uses.{IsDisjoint};
 ghost use Rattle.worked_cases.specs.RefusedBooks.{shared_refill, unanswered, two_integers, lone_dump, only_rekeyed};
 ghost use Rattle.worked_cases.specs.RefusedBooks.{only_blocks};
 
-/// If two CPUs take the same refill, the refill's key is used twice.
+/// If two CPUs take their key from the same refill (an entry of the base), this key is used twice.
 #[tactic(auto, using(crate::proofs::BooksRefused::shared_refill_is_refused))]
 pub fn one_refill_for_two_cpus()
     ensures { ¬ IsDisjoint shared_refill }
@@ -21,7 +21,7 @@ pub fn unanswered_extraction()
     ensures { ¬ HalfFinishedLanes unanswered }
 {}
 
-/// Served bytes do not stay in a batch.
+/// A book is not erased if bytes that a batch has served stay in the batch.
 #[tactic(auto, using(crate::proofs::BooksRefused::served_bytes_are_refused))]
 pub fn served_bytes_that_stay()
     ensures { ¬ IsErased two_integers (λ batch. replicate 96 1) }

@@ -1,4 +1,4 @@
-//! Interrupts and input events.
+//! Worked cases of interrupts and input events.
 ghost use Rattle.worked_cases.specs.Runs.{Holds};
 ghost use Rattle.worked_cases.specs.SampleEvents.{irq_at_1000_no_dump, irq_at_1001_dumps, input_timer};
 ghost use Rattle.worked_cases.specs.SampleEvents.{input_bytes_mixed};

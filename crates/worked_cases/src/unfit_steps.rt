@@ -1,10 +1,10 @@
-//! Steps that are no form of their event, whatever entries the lanes have.
+//! Steps that are no form (allowed pattern) of their event, whatever entries the lanes have.
 ghost use Rattle.key_names.specs.Transcripts.IsTranscript.{forms_clause};
 ghost use Rattle.worked_cases.specs.Runs.{FailsFirst, transcript_with};
 ghost use Rattle.worked_cases.specs.UnfitSteps.{read_without_a_look, fork_without_a_visit, looks_that_fall};
 ghost use Rattle.worked_cases.specs.UnfitSteps.{visit_of_no_cpu, batch_of_the_parent};
 
-/// A read that gets `EAGAIN` must have a look.
+/// A read that gets `EAGAIN` must have a look (a read of the generation).
 #[tactic(auto, using(crate::proofs::UnfitForms::read_without_a_look_fails))]
 pub fn read_without_a_look()
     ensures { FailsFirst forms_clause read_without_a_look.script (transcript_with read_without_a_look.lines) }
@@ -16,7 +16,7 @@ pub fn fork_without_a_visit()
     ensures { FailsFirst forms_clause fork_without_a_visit.script (transcript_with fork_without_a_visit.lines) }
 {}
 
-/// The looks of a vgetrandom call never fall.
+/// No look (read of the generation) of a vgetrandom call may find a lower generation than the look before.
 #[tactic(auto, using(crate::proofs::UnfitForms::looks_that_fall_fails))]
 pub fn looks_that_fall()
     ensures { FailsFirst forms_clause looks_that_fall.script (transcript_with looks_that_fall.lines) }

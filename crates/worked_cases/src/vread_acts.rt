@@ -1,4 +1,4 @@
-//! Acts inside vgetrandom calls: an act's setting, and its place in the order of steps.
+//! Acts (events inside vgetrandom calls): an act's setting, and its place in the order of steps.
 ghost use Rattle.worked_cases.specs.Runs.{Holds};
 ghost use Rattle.worked_cases.specs.VreadActs.{act_has_the_cpu_of_its_read, act_conforms_at_its_point, act_before_a_fork};
 

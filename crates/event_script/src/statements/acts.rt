@@ -1,4 +1,4 @@
-//! The acts that a script binds to a `vread`.
+//! The acts (events inside a vgetrandom call) that a script binds to a `vread`.
 
 ghost use Rattle.std.specs.Prelude.{◌≡◌};
 ghost use Rattle.event_script.specs.Views.{Tells, fields_of};

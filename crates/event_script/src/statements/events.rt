@@ -17,7 +17,7 @@ use crate::words::alone;
 use key_names::{Event, FaultKind, HardwareWords, Word};
 use std::alloc::Global;
 
-/// The last moment, in milliseconds.
+/// The last moment that a line can set, in milliseconds.
 pub(crate) const LAST_MOMENT: u64 = (1 << 40) - 1;
 
 /// An event without fields.

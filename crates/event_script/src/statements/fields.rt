@@ -8,7 +8,7 @@ ghost use Rattle.key_names.specs.Texts.ScriptFaults.{parts, no_field, one_field,
 use key_names::FaultKind;
 use memchr::memchr;
 
-/// Whether a field equals this text.
+/// Whether `field` and `text` are the same bytes.
 pub(crate) fn spells(field: &[u8], text: &[u8]) -> bool
     ensures { result ≡ bytes_eq field.now text.now }
 {

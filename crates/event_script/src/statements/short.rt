@@ -30,7 +30,7 @@ pub(crate) enum NumberFields {
     Two(u64, u64),
 }
 
-/// The word at the start of a text, and the text after it.
+/// The word at the start of a text, and the text after the word.
 fn word_in_front(text: &[u8]) -> Option<(Word, &[u8])>
     ensures { IfSome result (λ both. text.now ≡ word_text both.0 ++ both.1.now) }
 {
@@ -58,7 +58,7 @@ fn word_in_front(text: &[u8]) -> Option<(Word, &[u8])>
     })
 }
 
-/// Reads the second number of a line, up to the line end. Returns both numbers, and the text after the line end.
+/// Reads the second number of a line, up to the line feed. Returns both numbers, and the text after the line feed.
 // This function and the next one are called from two places. Without the hints they would not be inlined.
 #[inline(always)]
 fn second_in_front(first: u64, text: &[u8]) -> Option<(NumberFields, &[u8])>
@@ -71,7 +71,7 @@ fn second_in_front(first: u64, text: &[u8]) -> Option<(NumberFields, &[u8])>
     }
 }
 
-/// One or two numbers before a line end, and the text after the line end.
+/// The one or two numbers at the start of a text, if a line feed follows them, and the text after the line feed.
 #[inline(always)]
 fn some_in_front(text: &[u8]) -> Option<(NumberFields, &[u8])>
     ensures { IfSome result (λ both. 32 ∷ text.now ≡ after_word both.0 ++ 10 ∷ both.1.now) }
@@ -83,7 +83,7 @@ fn some_in_front(text: &[u8]) -> Option<(NumberFields, &[u8])>
     }
 }
 
-/// The numbers between a word and the line end, if nothing else is there, and the text after the line end.
+/// The numbers between a word and the line feed, if nothing else is there, and the text after the line feed.
 fn numbers_in_front(text: &[u8]) -> Option<(NumberFields, &[u8])>
     ensures { IfSome result (λ both. text.now ≡ after_word both.0 ++ 10 ∷ both.1.now) }
 {

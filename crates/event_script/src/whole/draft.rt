@@ -109,7 +109,7 @@ impl Draft {
         })
     }
 
-    /// Whether an event forks a number that was forked before, or a number that is not above the forking caller's.
+    /// Whether an event forks a caller that was forked before, or whose number is not above the forking caller's.
     fn is_bad_fork(&self, event: &Event) -> bool
         requires { InRange self.now.head.version self.now.head.cpus event.now }
         ensures { result ≡ is_bad_fork (draft_as self.now) event.now }

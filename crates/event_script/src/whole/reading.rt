@@ -21,7 +21,7 @@ use crate::whole::error::LineError;
 use key_names::{Event, FaultKind, ScriptFault};
 use std::alloc::Global;
 
-/// The first line of a text, and the text after it.
+/// The first line of a text, and the text after this line.
 fn first_line(text: &[u8]) -> Result<(&[u8], &[u8]), FaultKind>
     ensures line { Tells (λ both. both.0.now) result (line_of (parts 10 text.now)) }
     ensures rest { IfOk result (λ both. parts 10 both.1.now ≡ following (parts 10 text.now)) }
@@ -140,7 +140,7 @@ pub(crate) fn at_line(line: u32, error: LineError) -> ScriptError
     }
 }
 
-/// The version of a text, and the text after the version's line.
+/// The version that a script's first line contains, and the text after this line.
 pub(crate) fn read_version(text: &[u8]) -> Result<(u32, &[u8]), FaultKind>
     ensures version { Tells (λ both. both.0) result (version_in (parts 10 text.now)) }
     ensures rest { IfOk result (λ both. parts 10 both.1.now ≡ following (parts 10 text.now)) }
@@ -151,7 +151,7 @@ pub(crate) fn read_version(text: &[u8]) -> Result<(u32, &[u8]), FaultKind>
     Ok((version, rest))
 }
 
-/// The number of CPUs, and the text after the line of this number.
+/// The number of CPUs that a script's second line contains, and the text after this line.
 pub(crate) fn read_cpus(version: u32, text: &[u8]) -> Result<(u32, &[u8]), FaultKind>
     ensures cpus { Tells (λ both. both.0) result (cpus_in version (parts 10 text.now)) }
     ensures range { IfOk result (λ both. (0 < both.0) × (both.0 ≤ 256)) }

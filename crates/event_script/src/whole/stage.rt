@@ -17,7 +17,7 @@ use crate::whole::reading::{
 use key_names::{FaultKind, ScriptFault};
 use std::alloc::{AllocError, Global};
 
-/// How far a text was read, with the content of that part.
+/// How far a script's text was read, with the content of the lines read.
 #[derive(Drop)]
 pub(crate) enum ScriptStage {
     /// The first line comes next.

@@ -17,8 +17,8 @@ use std::thread::Threads;
 // The length of the long read. The long read takes about a millisecond, and a short read takes less than a microsecond.
 const LONG: usize = 1 << 20;
 
-// If a long read had no work left after its visit, its call would return soon after the visit. Fewer short reads than
-// this would fit in between.
+// If a long read had no work left after its visit, its call would return soon after the visit. Fewer than this many
+// short reads would fit between the visit and the return.
 const MANY: u64 = 64;
 
 const ROUNDS: u32 = 500;
@@ -36,7 +36,7 @@ fn last_place(trace: &Trace) -> u64 {
     place
 }
 
-// A read for the kernel on CPU 0. Returns the place of its visit there.
+// A read for the kernel on CPU 0. Returns the place of its visit of CPU 0.
 fn read<R: Wait>(rt: &R, lanes: &Lanes, pass: &mut Pass, caller: u32, buf: &mut [u8]) -> u64
     requires has { HoldsLanes lanes.now caller [] pass.old }
     requires cpu { 0 < lanes.now.cpus }

@@ -18,7 +18,7 @@ use std::thread;
 use std::thread::Threads;
 use vdso_state::{Local, VState};
 
-// A call of caller 0 that visits only this lane. It starts after another pass took the lane.
+// A call of caller 0 that visits only `lane`. The call starts after another pass took `lane`.
 fn visit_of<R: Wait>(
     rt: &R,
     lanes: &Lanes,

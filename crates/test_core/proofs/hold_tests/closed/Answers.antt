@@ -6,7 +6,7 @@ use Rattle.lane_table.proofs.Calls.HandLemmas.{idle_of}
 use Rattle.caller_run.specs.Families.{SameShare}
 use Rattle.test_core.proofs.hold_tests.closed.Goals as goal
 
--- the view of a pass with the whole share
+-- the view (what a pass knows and did, in proofs only) of a pass with the whole share of the table
 abbrev whole : View
 whole = first_view (plan_of 0 0)
 
@@ -21,7 +21,7 @@ quarter_off h q one half share halvings = ap (λ (z : ℕ). q.share * 2 ^ (z + 1
     ∙ ap (λ (z : ℕ). z * 4) share ∙ ap (λ (z : ℕ). 1 * 2 ^ z) (sym halvings)
     ∙ ap (λ (z : ℕ). z * 2 ^ q.halvings) (sym one)
 
--- if `p` has the same share as the half `h`, then the whole has this share too once the whole is split
+-- if `p` has the same share as the half `h`, then `whole` has this share too once it is split
 half_left : (h p : View) → h.share ≡ 1 → h.halvings ≡ 1 → SameShare h p → SameShare (halved whole) p
 half_left h p one half same = ap (λ (z : ℕ). p.share * 2 ^ z) (sym half) ∙ same
     ∙ ap (λ (z : ℕ). z * 2 ^ p.halvings) one

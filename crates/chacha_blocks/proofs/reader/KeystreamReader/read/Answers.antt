@@ -4,7 +4,7 @@ use Rattle.chacha_blocks.specs.Place.{Place, generator_at}
 use Rattle.chacha_blocks.proofs.Words.{bytes_of_fill, rest_of_fill}
 use Rattle.chacha_blocks.proofs.reader.KeystreamReader.read.Goals as goal
 
--- if a read keeps the key, the reader's generator is then that of the key at the new place
+-- if a read keeps the key, and `g` is the generator of the key at word `w`, then `g` is the generator at its own word
 conforms : (key k : List ℕ) (w : ℕ) (g : ChaCha) → k ≡ key → g ≡ generator_at key w → g ≡ generator_at k g.word_pos
 conforms key k w g same after = let place : g.word_pos ≡ w = ap (λ (x : ChaCha). x.word_pos) after in
     after ∙ rw (same, place) refl
