@@ -1,4 +1,5 @@
--- Whatever meanings the calls have, `all_over` lists each entry together with the end of the call that left the entry.
+-- For any meanings of the calls, `all_over` pairs each entry of a vgetrandom state with the end (line and stamp) of the
+-- call that made the entry.
 use Rattle.std.proofs.Common.{◌≡◌, ℕ, suc, ◌+◌, ◌<◌, ◌≤◌, List, [], ◌∷◌, ◌++◌, map, length, refl, sym, ap, ◌∙◌, arith}
 use Rattle.std.specs.Prelude.{◌==◌, if◌then◌else◌}
 use Rattle.std.specs.List.{range_with_len}

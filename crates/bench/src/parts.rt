@@ -1,4 +1,4 @@
-//! Loops over the primitives and parts. Each returns 8 bytes of its last result.
+//! Loops to measure, one for each primitive or part of the core. A loop returns 8 bytes of its last result.
 use blake2s_core::{Blake2s, hash};
 use chacha_blocks::{erase, fill};
 use rand_chacha::ChaCha20Rng;

@@ -63,7 +63,8 @@ pub record RanAll (script : Script) (runs : List Run) (w : View) : Type 0 where
   pub wide : length w.lanes ≡ script.cpus + 2
   pub ended : Ended (script.cpus + 2) w
 
--- `t` is a lawful transcript of the script, with the book of the lists that the view w has of the lanes
+-- `t` is a lawful transcript of the script; its book has the lanes' lists of the view `w`, and the state lists of
+-- `meanings`
 pub record LawfulRuns (script : Script) (t : List (List SeenLine)) (w : View) : Type 0 where
   pub meanings : List (List CallMeaning)
   pub transcript : IsTranscriptBy script t (book_of (script.cpus + 2) (known_of w) (map state_lists meanings)) meanings

@@ -174,7 +174,7 @@ pub record Returned (t : Lanes) (script : Script) (begun : Start) (a : Layout) (
   pub caller : b.caller ≡ a.caller
   pub shape : tree b.kids ≡ tree a.kids
 
--- a caller that began as `begun` went from the view v to its end, and is y after its joins
+-- a caller that began as `begun` ran from the view `v` to the view `end`, and is `y` after it has joined its children
 pub record WentFrom (script : Script) (begun : Start) (events : List Event) (kids : List Start) (v : View) (y : RunningCaller)
     : Type 0 where
   pub own : y.caller.set.caller ≡ begun.caller

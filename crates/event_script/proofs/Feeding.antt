@@ -122,8 +122,8 @@ piece_begins text piece r at = record {
   number = omega (arith, at.number, length-append text piece);
 }
 
--- if the unread bytes, `front`, have no line feed, and the reader appends them to its rest, no byte is unread after
--- that
+-- if the unread bytes, `front`, have no line feed, and the reader appends them to its field `rest` (the start of the next
+-- line), then no byte is unread
 front_kept : (text front : List ℕ) (r next : ScriptReader) → IsAfter text r front → Lacks 10 front → next.stage ≡ r.stage
     → next.rest.items ≡ r.rest.items ++ front → IsAfter text next []
 front_kept text front r next at clean same rest = record {

@@ -1,5 +1,5 @@
--- If a reader waits for more text after a whole line, its stage shows that the script's head is incomplete, or that the
--- line `end` no longer fits.
+-- A reader that waits for more text after a whole line is in one of two stages: the script's head is incomplete, or the
+-- line `end` would exceed the limit of a script's bytes.
 use Rattle.std.proofs.Common.{◌≡◌, ℕ, ◌+◌, ◌<◌, ◌≤◌, List, [], arith}
 use Rattle.event_script.specs.Drafts.{draft_as}
 use Rattle.event_script.specs.Feeding.{HasFed}

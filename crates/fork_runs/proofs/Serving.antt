@@ -38,7 +38,7 @@ all_served (system_call n flags answer ∷ steps) s t ready does = (
 all_served (at_point point wiped ∷ steps) s t ready does =
     (tt, all_served steps does.0 t (stays_ready s does.0 (at_point point wiped) ready does.1) does.2)
 
--- The bytes that each end of a call gives
+-- For each way in which a vgetrandom call can end: it gives bytes.
 
 module _ (n flags : ℕ) (good : is_bad flags ≡ false) where
   system_gives : (s : VgetrandomState) (steps : List HostStep) (outcome : Outcome) → AreServed steps →

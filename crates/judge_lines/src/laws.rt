@@ -96,8 +96,8 @@ pub fn act_form_is_row()
     ensures { ActFormIsRow }
 {}
 
-/// Take the system call by which an attempt of a `vread` reads a key. If the entries of the call fit their lanes, and
-/// the steps after the call have the inferred entries, the call's entries are the inferred ones too.
+/// For the system call by which an attempt of a `vread` reads a key: if the system call's entries fit their lanes, and
+/// the entries of all steps after it are the inferred ones, the system call's entries are the inferred ones too.
 #[tactic(auto, using(crate::proofs::InferredReads::key_inferred))]
 pub fn key_call_is_inferred()
     ensures { KeyCallIsInferred }

@@ -85,7 +85,7 @@ pub struct View {
     pub lanes: LinkedList<LaneView>,
 }
 
-/// The size of a table: the number of its lanes, and the first number of its stamps, tickets and serving numbers.
+/// The number of a table's lanes, and the one number at which its stamps, tickets and serving numbers all begin.
 #[derive(Drop)]
 pub struct TableSize {
     pub count: usize,

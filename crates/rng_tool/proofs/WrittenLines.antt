@@ -123,7 +123,8 @@ next_line lines line =
     (flat_map-append whole_line lines (line ∷ []) ∙ ap (λ (t : List ℕ). text_of lines ++ t) (append-nil (whole_line line)))
     ∙ sym (append_assoc (codes "rngtranscript 1\n") (text_of lines) (whole_line line))
 
--- `wrote_more` for one more line of the transcript
+-- if the first lines of a transcript were written, and then one more line, the lines with that line were written; if
+-- the write of that line failed, a prefix of them was written
 pub wrote_line : {shown : SeenLine} (w v : Result (Unit {0}) Failed) (a b c : Known) (f g h : ℕ) (lines : List SeenLine)
     (line : SeenLine) → is_ok w ≡ true → Wrote w a b f g (text_so_far lines) → shown ≡ line →
     OnOk v (Appends b c (whole_line shown)) → AppendsPrefix b c (whole_line shown) → OnErr v (Rose g h) →
@@ -134,7 +135,7 @@ wrote_line w v a b c f g h lines line ok k is whole prefix cause same =
     (subst (λ (l : SeenLine). OnOk v (Appends b c (whole_line l))) is whole)
     (subst (λ (l : SeenLine). AppendsPrefix b c (whole_line l)) is prefix) cause same)
 
--- `wrote_no_more` for one more line of the transcript
+-- if a write failed earlier, what was written is a prefix of the transcript with one more line too
 pub wrote_no_line : (w : Result (Unit {0}) Failed) (a b : Known) (f g : ℕ) (lines : List SeenLine) (line : SeenLine) →
     is_ok w ≡ false → Wrote w a b f g (text_so_far lines) → Wrote w a b f g (text_so_far (lines ++ line ∷ []))
 wrote_no_line w a b f g lines line failed k =

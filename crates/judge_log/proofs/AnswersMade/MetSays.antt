@@ -271,7 +271,7 @@ module _ (met : List KeptStep) (ds : List Effect) (h : AreMet met ds) where
   shape : (s : Shape met) × (ds ≡ effects_in met s)
   shape = shaped met ds h
 
-  -- for a single event, the kept data give the same answer and data as the effects
+  -- for a single event, the kept data `met` give the same answer and the same shown bytes as the effects `ds`
   pub event_said : (event : Event) → (answers.answer_of event ds ≡ event_says event met)
       × (answers.shown_of event ds ≡ shown_by (event_shows event met))
   event_said event =
