@@ -7,11 +7,11 @@ use Rattle.key_names.specs.Transcripts.SeenLine.{SeenLine}
 use Rattle.judge_lines.specs.Clauses.{clause_of}
 use Rattle.serial_replay.specs.Replayed.{IsTheTranscript, StepsFail}
 use Rattle.transcript_check.specs.Judged.{IsSound}
-use Rattle.fenloth_c.specs.declared.answer.Answer.{Answer}
-use Rattle.fenloth_c.specs.declared.answer.Answer.TheVariants.{Yes, NoTranscript, Fails, NoScript, NoMemory, TooLong, NoRoom}
+use Rattle.fenloth_c.specs.declared.answer.TextAnswer.{TextAnswer}
+use Rattle.fenloth_c.specs.declared.answer.TextAnswer.TheVariants.{Yes, NoTranscript, Fails, NoScript, NoMemory, TooLong, NoRoom}
 
 -- the number that a C function returns for each answer
-abbrev pub code_of : Answer → ℕ
+abbrev pub code_of : TextAnswer → ℕ
 code_of Yes = 0
 code_of NoTranscript = 1
 code_of (Fails clause) = clause_number (clause_of clause)
@@ -31,7 +31,7 @@ AreTexts script text Holds =
 -- The given answer is true of the texts `script` and `text`; if both are faulty, the answer is NoScript. The three
 -- relations define what Yes, a clause and NoRoom mean for a script and a transcript.
 abbrev pub IsTrueOf : List ℕ → List ℕ → (Script → List (List SeenLine) → Type 0)
-    → (Script → List (List SeenLine) → Clause → Type 0) → (Script → List (List SeenLine) → Type 0) → Answer → Type 0
+    → (Script → List (List SeenLine) → Clause → Type 0) → (Script → List (List SeenLine) → Type 0) → TextAnswer → Type 0
 IsTrueOf script text IsYes Fail IsFull Yes = AreTexts script text IsYes
 IsTrueOf script text IsYes Fail IsFull NoTranscript =
     IsScriptText script × ((t : List (List SeenLine)) → IsTranscriptText text t → ⊥)
@@ -42,7 +42,7 @@ IsTrueOf script text IsYes Fail IsFull TooLong = IsScriptText script × (2 ^ 31 
 IsTrueOf script text IsYes Fail IsFull NoRoom = AreTexts script text IsFull
 
 -- `answer`, that of the check, is true. Yes: the transcript is lawful. A clause: it is the first that fails
-abbrev pub IsChecked : List ℕ → List ℕ → Answer → Type 0
+abbrev pub IsChecked : List ℕ → List ℕ → TextAnswer → Type 0
 IsChecked script text answer = IsTrueOf script text IsSound FirstFails (λ s t. ⊥) answer
 
 -- the buffer begins with the text of the transcript that was made, `made` is the length of this text, and the other
@@ -62,7 +62,7 @@ pub record IsLonger (old : List ℕ) (made : ℕ) (s : Script) (t : List (List S
 
 -- the answer of the replay is true. Yes and NoRoom: the only lawful transcript with these steps is in the buffer, or is
 -- too long for the buffer. A clause: it is the first that fails among those on lines, marks, forms and looks
-abbrev pub IsRemade : List ℕ → List ℕ → List ℕ → List ℕ → ℕ → Answer → Type 0
+abbrev pub IsRemade : List ℕ → List ℕ → List ℕ → List ℕ → ℕ → TextAnswer → Type 0
 IsRemade script text old new made answer =
     IsTrueOf script text (IsMade old new made) StepsFail (IsLonger old made) answer
 
@@ -73,7 +73,7 @@ IsPut true text old new = new ≡ text ++ drop (length text) old
 IsPut false text old new = (new ≡ old) × (length old < length text)
 
 -- no script was read from `script`, and the given answer is a true reason for that
-abbrev pub IsNoScript : List ℕ → Answer → Type 0
+abbrev pub IsNoScript : List ℕ → TextAnswer → Type 0
 IsNoScript script NoScript = (s : Script) → IsScript s script → ⊥
 IsNoScript script NoMemory = ⊤
 IsNoScript script Yes = ⊥
@@ -83,7 +83,7 @@ IsNoScript script TooLong = ⊥
 IsNoScript script NoRoom = ⊥
 
 -- no transcript was read from `text`, and the given answer is a true reason for that
-abbrev pub IsNoTranscript : List ℕ → Answer → Type 0
+abbrev pub IsNoTranscript : List ℕ → TextAnswer → Type 0
 IsNoTranscript text NoTranscript = (t : List (List SeenLine)) → IsTranscriptText text t → ⊥
 IsNoTranscript text NoMemory = ⊤
 IsNoTranscript text TooLong = 2 ^ 31 < length text

@@ -6,7 +6,7 @@ use judge_lines::clause::Clause;
 
 /// The answer of a C function.
 #[derive(Clone, Copy)]
-pub enum Answer {
+pub enum TextAnswer {
     /// The transcript is lawful, or its lines were made again.
     Yes,
     /// The text is not that of a transcript.
@@ -23,19 +23,19 @@ pub enum Answer {
     NoRoom,
 }
 
-impl Answer {
+impl TextAnswer {
     /// The number that C gets, which `examples/clients/fenloth_texts.h` lists.
     pub(crate) fn code(self) -> u32
         ensures { result ≡ code_of self }
     {
         match self {
-            Answer::Yes => 0,
-            Answer::NoTranscript => 1,
-            Answer::Fails(clause) => u32::from(clause.number()),
-            Answer::NoScript => 8,
-            Answer::NoMemory => 9,
-            Answer::TooLong => 10,
-            Answer::NoRoom => 11,
+            TextAnswer::Yes => 0,
+            TextAnswer::NoTranscript => 1,
+            TextAnswer::Fails(clause) => u32::from(clause.number()),
+            TextAnswer::NoScript => 8,
+            TextAnswer::NoMemory => 9,
+            TextAnswer::TooLong => 10,
+            TextAnswer::NoRoom => 11,
         }
     }
 }

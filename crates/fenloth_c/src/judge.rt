@@ -1,13 +1,13 @@
 //! The answer of `fenloth_check`.
 ghost use Rattle.fenloth_c.specs.Answers.{IsChecked};
 
-use crate::answer::Answer;
+use crate::answer::TextAnswer;
 use crate::texts::{read_script, read_transcript};
 use std::alloc::Global;
 use transcript_check::check::{Verdict, check};
 
 /// Whether the transcript is lawful for the script.
-pub(crate) fn answer(alloc: Global, script: &[u8], transcript: &[u8]) -> Answer
+pub(crate) fn answer(alloc: Global, script: &[u8], transcript: &[u8]) -> TextAnswer
     ensures { IsChecked script.now transcript.now result }
 {
     let read = match read_script(alloc, script) {
@@ -19,8 +19,8 @@ pub(crate) fn answer(alloc: Global, script: &[u8], transcript: &[u8]) -> Answer
         Err(answer) => return answer,
     };
     match check(alloc, &read, &lines) {
-        Ok(Verdict::Yes) => Answer::Yes,
-        Ok(Verdict::No(clause)) => Answer::Fails(clause),
-        Err(_) => Answer::NoMemory,
+        Ok(Verdict::Yes) => TextAnswer::Yes,
+        Ok(Verdict::No(clause)) => TextAnswer::Fails(clause),
+        Err(_) => TextAnswer::NoMemory,
     }
 }

@@ -5,9 +5,9 @@
 //!
 //! ```rust
 //! match check(alloc, &read, &lines) {
-//!     Ok(Verdict::Yes) => Answer::Yes,
-//!     Ok(Verdict::No(clause)) => Answer::Fails(clause),
-//!     Err(_) => Answer::NoMemory,
+//!     Ok(Verdict::Yes) => TextAnswer::Yes,
+//!     Ok(Verdict::No(clause)) => TextAnswer::Fails(clause),
+//!     Err(_) => TextAnswer::NoMemory,
 //! }
 //! ```
 //!
@@ -15,7 +15,7 @@
 //!
 //! # Proved
 //!
-//! - [`fenloth_check`]: the result is the number of an [`answer::Answer`] that is true of the two texts. If the result
+//! - [`fenloth_check`]: the result is the number of an [`answer::TextAnswer`] that is true of the two texts. If the result
 //!   is 0, all that `transcript_check` proves of a lawful transcript is true of this one.
 //! - [`fenloth_replay`]: the same for the transcript that is made again. If the result is 0, the buffer begins with the
 //!   text of this transcript; if it is 11, this text is longer than the buffer. After any other result the buffer and
@@ -30,7 +30,7 @@
 #![tactic(auto)]
 
 ghost use Rattle.std.specs.Prelude.{◌≡◌, ◌≢◌};
-ghost use Rattle.fenloth_c.specs.declared.answer.Answer.{Answer as Answered};
+ghost use Rattle.fenloth_c.specs.declared.answer.TextAnswer.{TextAnswer as Answered};
 ghost use Rattle.fenloth_c.specs.Answers.{IsChecked, IsRemade, code_of};
 
 pub mod answer;
@@ -43,7 +43,7 @@ use std::alloc::Global;
 
 /// Whether a transcript is lawful for a script.
 ///
-/// The result is the number of an [`answer::Answer`] that is true of the two texts. It is 0 if the transcript is
+/// The result is the number of an [`answer::TextAnswer`] that is true of the two texts. It is 0 if the transcript is
 /// lawful, 1 if the text `transcript` spells no transcript, and 2 to 7 for the first clause that fails. It is 8 if the
 /// script has a fault, 9 if memory ran out, and 10 if the transcript has more than 2^31 bytes.
 #[unsafe(no_mangle)]
@@ -56,7 +56,7 @@ pub extern "C" fn fenloth_check(alloc: Global, script: &[u8], transcript: &[u8])
 /// Makes the answers and data of a transcript again, from its words and steps alone. Writes the text of the resulting
 /// transcript to the start of `buffer`, and the number of the text's bytes to `made`.
 ///
-/// The result is the number of an [`answer::Answer`] that is true of the two texts: 0 if the transcript was made, and 1
+/// The result is the number of an [`answer::TextAnswer`] that is true of the two texts: 0 if the transcript was made, and 1
 /// to 10 as for [`fenloth_check`], but never 5 and 6. The result is 11 if the text is longer than the buffer. In this
 /// case too, `made` is the number of the text's bytes. The buffer keeps its bytes unless the result is 0, and `made`
 /// keeps its value unless the result is 0 or 11.

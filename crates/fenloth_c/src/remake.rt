@@ -3,7 +3,7 @@ ghost use Rattle.std.specs.Prelude.{◌≡◌, ◌≢◌, length, IfOk};
 ghost use Rattle.key_names.specs.Texts.TranscriptGrammar.{transcript_text};
 ghost use Rattle.fenloth_c.specs.Answers.{IsPut, IsRemade, code_of};
 
-use crate::answer::Answer;
+use crate::answer::TextAnswer;
 use crate::sink::Written;
 use crate::texts::{read_script, read_transcript};
 use io_edges::{Failed, NoMemory};
@@ -40,7 +40,7 @@ pub(crate) fn answer(
     transcript: &[u8],
     buffer: &mut [u8],
     made: &mut u64,
-) -> Answer
+) -> TextAnswer
     ensures answer { IsRemade script.now transcript.now buffer.old buffer.new made.new result }
     ensures buffer_kept { code_of result ≢ 0 → buffer.new ≡ buffer.old }
     ensures made_kept { code_of result ≢ 0 → code_of result ≢ 11 → made.new ≡ made.old }
@@ -55,16 +55,16 @@ pub(crate) fn answer(
     };
     let remade = match replay(alloc, &read, &lines) {
         Ok(Replayed::Made(remade)) => remade,
-        Ok(Replayed::No(clause)) => return Answer::Fails(clause),
-        Err(_) => return Answer::NoMemory,
+        Ok(Replayed::No(clause)) => return TextAnswer::Fails(clause),
+        Err(_) => return TextAnswer::NoMemory,
     };
     let Ok(text) = text_of(alloc, &remade) else {
-        return Answer::NoMemory;
+        return TextAnswer::NoMemory;
     };
     *made = text.len() as u64;
     if put(&text, buffer) {
-        Answer::Yes
+        TextAnswer::Yes
     } else {
-        Answer::NoRoom
+        TextAnswer::NoRoom
     }
 }
