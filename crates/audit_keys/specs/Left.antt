@@ -94,7 +94,7 @@ pub record After : Type 0 where
   pub rest : List Step
   pub left : Left
 
--- the end of an attempt whose steps end too early: it leaves `l`, and the key's next block is `c`
+-- an attempt that runs out of steps: it leaves `l`, and the next block of its key is `c`
 abbrev pub cut_short : ℕ → Left → After
 cut_short c l = record { next_block = c; holds = true; rest = []; left = l }
 

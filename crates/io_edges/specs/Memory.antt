@@ -1,4 +1,4 @@
--- How each call changes a source and a sink in memory.
+-- What each call does to a source or a sink in memory.
 use Rattle.std.specs.Prelude.{ℕ, ◌-◌, ◌≡◌, ◌==◌, ◌<◌, ◌⊎◌, Bool, IsTrue, min, List, ◌++◌, length, take, drop}
 use Rattle.std.specs.List.{list_any}
 use Rattle.io_edges.specs.Faults.{next_count}

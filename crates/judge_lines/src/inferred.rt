@@ -18,7 +18,7 @@ pub enum Sign {
     InBase(u64),
     /// A visit of a CPU, by its number and its place.
     InCpu(u32, u64),
-    /// No step, since the line has none before its first step or after its last.
+    /// No step: the line begins or ends here.
     Nowhere,
 }
 

@@ -40,7 +40,7 @@ mark_met kept PoolLane place = pool_met (slice_get kept.pool.items place)
 mark_met kept BaseLane place = base_met (slice_get kept.base.items place)
 mark_met kept (CpuLane cpu) place = lane_met cpu place (slice_get kept.cpus.items cpu)
 
--- a step; if it is a visit, with the data kept about this visit
+-- a step; a visit also has the data that was kept about it
 abbrev pub met_at : KeptLists → Step → KeptStep
 met_at kept (Look found) = Looked found
 met_at kept (Marked mark) = mark_met kept mark.lane mark.place

@@ -1,8 +1,7 @@
 //! The laws of following a `vread`, each as the contract of a function without code.
 //!
-//! If each visit of some steps has the inferred entry and the steps can be followed, the steps are a `vread`. If the
-//! entries of a `vread` fit, the `vread` can be followed, and the result has the answer, bytes and state of its
-//! meaning.
+//! If each visit of some steps has its inferred entry, and the code can follow the steps, they are a `vread`. If the
+//! entries of a `vread` fit, the code can follow it, and returns the answer, bytes and state that its meaning has.
 ghost use Rattle.judge_vread.specs.Laws.{FollowedIsVread, VreadIsFollowed, CalledIsRow, RowIsCalled, CalledSays};
 ghost use Rattle.judge_vread.specs.Laws.{ActJoins, VreadIsInferred};
 

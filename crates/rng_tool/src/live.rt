@@ -174,8 +174,7 @@ fn run_session<R: Wait, S: Source, K: Sink, G: Gate>(
     }
 }
 
-/// Makes each event of a script's only caller as soon as the event's line comes, and writes the transcript's line at
-/// once.
+/// Makes the events of a script's only caller as their lines come, and writes each event's transcript line at once.
 pub(crate) fn run_live<R: Wait, S: Source, K: Sink, G: Gate>(
     rt: &R,
     alloc: Global,

@@ -247,9 +247,8 @@ fn first_lines(text: &[u8], lines: usize) -> &[u8] {
     b""
 }
 
-// The source gives one byte in each call. The first run fails at call 1. In each later run the failing call is eight
-// calls later. From line 3 of the script on, the output has the first line and a line for each event that was read.
-// After the last line the output is whole.
+// The source gives one byte in each call, and fails at call 1 in the first run, at call 9 in the second, and so on. The
+// output has the transcript's lines up to the last event that was read.
 #[test]
 fn a_session_whose_source_fails(rt: HostRuntime) -> Result<(), Fail> {
     for eighth in 0..=READY_SCRIPT.len() / 8 {

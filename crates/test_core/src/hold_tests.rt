@@ -130,7 +130,7 @@ fn join_in(lanes: &Lanes, pass: &mut Pass, other: Pass, _caller: u32)
     lanes.join(pass, other);
 }
 
-// Joins the passes with a half and a quarter of the share to the first pass, which has the other quarter. Then ends the
+// Three passes have a quarter, a half and a quarter of the share. Joins the other two to the first, and closes the
 // table.
 fn closed(lanes: Lanes, mut pass: Pass, half: Pass, quarter: Pass) -> u128
     requires pass { HoldsLanes lanes 0 [] pass × ((view pass).share * 4 ≡ 2 ^ (view pass).halvings) }

@@ -135,7 +135,7 @@ fn longest_run(a: &[u8], b: &[u8]) -> u64 {
     longest
 }
 
-// Starts a call of `n` bytes on a wiped state, and forks at this point. Returns the parent's bytes and the child's.
+// A call for `n` bytes on a wiped state, forked at `point`. Returns the parent's bytes and the child's.
 fn forked(
     rt: &impl Abort,
     alloc: Global,

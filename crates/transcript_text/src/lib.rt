@@ -32,7 +32,7 @@
 //!
 //! # Tested only
 //!
-//! Each put writes at most 4,096 bytes, all of one line: `transcript_text_tests` of `test_texts`.
+//! A put writes at most 4,096 bytes, all of one line: `transcript_text_tests` of `test_texts`.
 #![tactic(auto)]
 
 mod caller_lines;
