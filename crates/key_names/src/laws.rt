@@ -105,7 +105,8 @@ pub fn text_is_script_or_faulty()
     ensures { TextIsScriptOrFaulty }
 {}
 
-/// A caller's order has the steps of its ancestors, up to the visit that forks it, and then its own steps.
+/// A caller's order has the steps of its ancestors, up to the visit that forks the caller, and then the caller's own
+/// steps.
 #[tactic(auto, using(crate::proofs::History::CallerOrders::order_is_start_and_own))]
 pub fn order_is_start_and_own()
     ensures { OrderIsStartAndOwn }

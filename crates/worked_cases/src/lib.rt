@@ -1,8 +1,8 @@
 //! Worked cases of scripts and transcripts, each as the contract of a function without code. The prover evaluates the
 //! definitions on each case, and uses lemmas of `transcript_text`. No code of the program runs.
 //!
-//! Every transcript was made by an implementation that shares nothing with this repository. The bytes of all but three
-//! are those of the kernel's own C code (drivers/char/random.c, lib/vdso/getrandom.c).
+//! Every transcript was made by an implementation that shares nothing with this repository. In all but three of them,
+//! the bytes are those that the kernel's own C code makes (drivers/char/random.c, lib/vdso/getrandom.c).
 //!
 //! # Example
 //!

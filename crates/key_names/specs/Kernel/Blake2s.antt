@@ -46,8 +46,8 @@ mixed_at v a b c d x y =
     let w = mixed (slice_index v a) (slice_index v b) (slice_index v c) (slice_index v d) x y in
     slice_set (slice_set (slice_set (slice_set v a w.0) b w.1) c w.2) d w.3
 
--- one round, which takes the sixteen message words in its own order: G on the columns, and then on the diagonals
--- (section 3.2)
+-- one round: G on the columns, and then on the diagonals (section 3.2). `m` has the sixteen message words in the order
+-- of this round
 unfoldable pub round : List ℕ → List ℕ → List ℕ
 round v m =
     let v0 = mixed_at v 0 4 8 12 (slice_index m 0) (slice_index m 1) in

@@ -107,7 +107,7 @@ pub record IntFits (s : CpuState) (look : ℕ) (refill : Option ℕ) (width : �
   pub fills : FillConforms s look width filled
   pub names : IntNames s look refill filled
 
--- the entry fits the CPU's state: its generation and batches
+-- the entry fits the generation and the batches in the CPU's state
 abbrev pub CpuFits : CpuState → CpuEntry → Type 0
 CpuFits s (Read look refill taken) = ReadFits s look refill
 CpuFits s (Int look refill width filled) = IntFits s look refill width filled

@@ -330,7 +330,8 @@ at_line n (Err kind) = Err (record { line = n; kind = kind })
 abbrev pub is_unprintable : ℕ → Bool
 is_unprintable b = nat_lt b 0x20 || nat_lt 0x7e b
 
--- the first of the parts between line feeds, if it is a whole line. The last part has no line feed after it
+-- the first of the parts between line feeds, if it is a whole line. The last part is no whole line, since no line feed
+-- follows it
 abbrev pub line_of : List (List ℕ) → Result (List ℕ) FaultKind
 line_of [] = Err Unfinished
 line_of (tail ∷ []) = Err Unfinished
