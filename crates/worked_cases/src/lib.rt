@@ -23,8 +23,8 @@
 //!   states that a transcript is lawful for its script, down to every byte. It also states, for each near miss, which
 //!   clause is the first that fails.
 //! - [`unfit_steps`]: for each transcript, the clause on forms is the first that fails.
-//! - [`refusal::near_misses_are_refused`]: if a clause is the first that fails for a text, the text is not that of a
-//!   lawful transcript for the same script.
+//! - [`refusal::near_misses_are_refused`]: if a clause is the first that fails for a transcript, the transcript is not
+//!   lawful for its script.
 //! - [`refused_books`]: books and lists that the definitions refuse.
 //! - [`rules`]: the kernel's small rules on example numbers.
 //! - [`script_faults`]: the first faults of some scripts.

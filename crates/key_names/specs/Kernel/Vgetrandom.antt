@@ -50,7 +50,7 @@ prefix_attempt entries attempt = record attempt { entries = entries ++ attempt.e
 abbrev pub wipe_entry : Bool → List VEntry
 wipe_entry wiped = if wiped then Wipe ∷ [] else []
 
--- the entry of a new key names the CPU visit that gave its bytes
+-- the entry for a new key names the CPU visit that gave the key's bytes
 abbrev pub rekey_entry : Option CpuPlace → List VEntry
 rekey_entry None = []
 rekey_entry (Some at) = Rekey at.cpu at.place ∷ []
@@ -115,8 +115,8 @@ pub record FromWritten (n c : ℕ) (s : VgetrandomState) (steps : List HostStep)
   pub steps_are : steps ≡ system_call 32 0 answer ∷ rest
   pub goes_on : AfterKeyRead n c answer s rest attempt
 
--- from the point Start on: if the state's generation is not the published one, the state takes the published
--- generation, and then a new key
+-- from the point Start on: if the state's generation differs from the published generation, the state takes the
+-- published generation, and then a new key
 abbrev pub FromStart : ℕ → ℕ → ℕ → VgetrandomState → List HostStep → Attempt → Type 0
 FromStart n c published s steps attempt =
     MatchBool (s.generation == published) (AtPoint Serve (FromServe n c) s steps attempt)
@@ -129,7 +129,8 @@ pub record IsAttempt (n c : ℕ) (s : VgetrandomState) (steps : List HostStep) (
   pub steps_are : steps ≡ publishes published ∷ rest
   pub goes_on : AtPoint Start (FromStart n c published) s rest attempt
 
--- how a call ended, and with which bytes: it asked for no bytes; an attempt held; or the system call gave the answer
+-- how a call ended, and with which bytes: the call asked for no bytes, an attempt held, or the system call gave the
+-- answer
 pub data Ending : Type 0 where
   no_bytes : Ending
   by_batch : List ℕ → Ending

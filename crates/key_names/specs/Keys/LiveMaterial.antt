@@ -66,7 +66,8 @@ abbrev pub served_len : Lists → BatchHolder → ℕ
 served_len lists (cpu_batch c width) = batch_pos width ((cpu_end lists c).fills width)
 served_len lists (state_batch caller state) = (state_end lists caller state).pos
 
--- the entry `e` replaces `key`: it names a root, and `key` is the base's key; or it erases, and `key` is the key in use
+-- the entry `e` replaces `key`: either `e` names a root, and `key` is the base's key before `e`; or `e` erases, and
+-- `key` is the key in use
 abbrev pub BaseReplaces : KeyName → BaseState → BaseEntry → Type 0
 BaseReplaces key s e =
     (IsSome (root_of e) × (s.key ≡ Some key)) ⊎ (IsTrue (base_erases e) × (base_key_in_use e s.key ≡ Some key))

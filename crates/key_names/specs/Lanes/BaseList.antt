@@ -26,7 +26,7 @@ pub record BaseState : Type 0 where
   pub early_boot : Bool
   -- the number of running callers
   pub running : ℕ
-  -- the next root must come from this pool place or a later one
+  -- the least pool place from which the next root may come
   pub roots : ℕ
   -- the name of the key
   pub key : Option KeyName

@@ -157,7 +157,7 @@ inside_of (point ∷ act ∷ len ∷ more) = do
   if bytes_eq act (codes "vread") then vread_at point field else Err UnknownWord
 inside_of _ = Err UnknownWord
 
--- `event` in a script of version `first` or later. In a script of an earlier version, the event's word is unknown
+-- `event`, if the script's version is `first` or later. In an earlier version, the event's word is unknown
 abbrev pub since : ℕ → ℕ → Result Event FaultKind → Result Event FaultKind
 since first version event = if nat_le first version then event else Err UnknownWord
 
