@@ -119,7 +119,8 @@ pub fn start_is_a_front()
     ensures { StartIsAFront }
 {}
 
-/// Whether a look is allowed depends on its caller's earlier steps only through the greatest generation seen in them.
+/// Whether a look is allowed depends on its caller's earlier steps only through the greatest generation seen in these
+/// steps.
 #[tactic(auto, using(crate::proofs::History::CallerOrders::looks_are_counted))]
 pub fn looks_are_counted()
     ensures { LooksAreCounted }
