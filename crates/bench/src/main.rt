@@ -1,6 +1,6 @@
-//! Loops that are measured by hand, by the scripts in `bench/`. `rt run` in the crate's folder proves the crate, and
-//! builds and runs `out/bench`. Without arguments each loop runs a few times. `out/bench WORD NUMBER` runs one loop
-//! NUMBER times, and one line shows the last result:
+//! Loops to measure: the scripts in `bench/`, which are run by hand, measure them. `rt run` in the crate's folder
+//! proves the crate, and builds and runs `out/bench`. Without arguments each loop runs a few times.
+//! `out/bench WORD NUMBER` runs one loop NUMBER times, and one line shows the last result:
 //!
 //! - `keystream` and `plain` write NUMBER bytes of a key's stream, and `hash` hashes NUMBER bytes.
 //! - `bulk` hashes NUMBER samples of 64 bytes, `updated` hashes them one by one, and `mixed` mixes them into an input

@@ -1,4 +1,4 @@
--- The two texts and their spelling.
+-- The texts of scripts and of transcripts, and their spelling.
 pub mod ScriptFaults
 pub mod ScriptOrFault
 pub mod ScriptGrammar

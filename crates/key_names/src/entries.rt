@@ -7,10 +7,11 @@ use crate::text::Text;
 /// Whether a read is for a user or for the kernel, and the number of bytes that its call asked for.
 #[derive(Clone, Copy, Debug, PartialEq, Eq)]
 pub enum Taken {
-    /// For a user. If the read has more than 32 bytes, the visit takes one key, and this key makes all bytes of the
-    /// read (`get_random_bytes_user`).
+    /// For a user. If the read has more than 32 bytes, the visit hands over one key, and this key makes all bytes of
+    /// the read (`get_random_bytes_user`).
     User(u32),
-    /// For the kernel. The visit itself makes only the read's first bytes, at most 32 (`get_random_bytes`).
+    /// For the kernel. All bytes of the read come from the key in use. The visit itself makes only the first of them,
+    /// at most 32 (`get_random_bytes`).
     Kernel(u32),
 }
 
@@ -42,15 +43,15 @@ pub enum PoolEntry {
 /// An entry of the base's list. A root is named by the pool place of its extraction.
 #[derive(Clone, Copy, Debug, PartialEq, Eq)]
 pub enum BaseEntry {
-    /// The credited bits reached 128, and the root becomes an early key. If there is no root, the base was no longer
-    /// empty, and the base keeps its key (`_credit_init_bits`).
+    /// The credited bits reached 128, and the root becomes an early key. If no root is named, the base was no longer
+    /// empty, and it keeps its key (`_credit_init_bits`).
     Early { root: Option<u64> },
     /// A reseed (`crng_reseed`).
     Reseed { root: u64, now: u64 },
     /// The reseed timer is checked. If the timer was due, the core is reseeded with `root`.
     Tick { now: u64, root: Option<u64> },
-    /// A read from the base before the core is ready. The root replaces the base's key if the base was
-    /// empty (`crng_make_state`).
+    /// A read from the base before the core is ready. If the base was empty, the root replaces the base's key
+    /// (`crng_make_state`).
     Draw { root: Option<u64>, taken: Taken },
     /// The base hands over a key for the CPU's entry at this place (`crng_fast_key_erasure` of the base's key).
     Refill { cpu: u32, cpu_place: u64 },
@@ -94,7 +95,7 @@ pub enum CpuEntry {
         v2: u64,
         now: u64,
     },
-    /// The fast pool is dumped: two of its words and a credit are for the pool (`mix_interrupt_randomness`).
+    /// The fast pool is dumped: two of its words and a credit go to the input pool (`mix_interrupt_randomness`).
     Dump {
         now: u64,
     },
@@ -111,7 +112,8 @@ pub enum VEntry {
     Rekey { cpu: u32, cpu_place: u64 },
     /// `count` blocks of the key's keystream, of 64 bytes each, are served from block `from` on.
     Blocks { from: u64, count: u64 },
-    /// The 96 bytes from block `from` on become the batch, and the 32 bytes after them the next key.
+    /// The 96 bytes of the key's keystream from block `from` on become the batch. The 32 bytes after them become the
+    /// next key.
     Refill { from: u64 },
     /// The `len` bytes of the batch from its byte `pos` on are served.
     Serve { pos: u8, len: u8 },

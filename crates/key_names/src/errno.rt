@@ -9,6 +9,6 @@ pub enum Errno {
     Again = 11,
     /// A flag is unknown, or two flags exclude each other.
     Invalid = 22,
-    /// A reseed of a core that is not ready.
+    /// The call asks for a reseed, and the core is not ready.
     NoData = 61,
 }

@@ -53,13 +53,13 @@ pub enum Event {
     },
     /// The number of credited bits is read (ioctl `RNDGETENTCNT`).
     Bits,
-    /// An interrupt on the caller's CPU: the cycle counter, and the instruction pointer with the interrupt's number
-    /// (`add_interrupt_randomness`).
+    /// An interrupt on the caller's CPU. In the kernel `v1` is the cycle counter, and `v2` combines the instruction
+    /// pointer with the interrupt's number (`add_interrupt_randomness`).
     Irq {
         v1: u64,
         v2: u64,
     },
-    /// An input event. In the kernel the word is the cycle counter (`add_input_randomness`).
+    /// An input event. In the kernel `word` is the cycle counter (`add_input_randomness`).
     Input {
         word: u64,
         kind: u16,
@@ -80,7 +80,7 @@ pub enum Event {
     Kread {
         len: u32,
     },
-    /// A read of /dev/random. The flag is 1 if the file was opened with `O_NONBLOCK` (`random_read_iter`).
+    /// A read of /dev/random. `flag` is 1 if the file was opened with `O_NONBLOCK` (`random_read_iter`).
     Dread {
         len: u32,
         flag: u32,
@@ -107,7 +107,7 @@ pub enum Event {
     Fork {
         child: u32,
     },
-    /// An act that waits for the caller's next `Vread`, and is done at one of its points.
+    /// An act that waits for the caller's next `Vread`, and is done when that call reaches `point`.
     Inside {
         point: Point,
         act: InsideAct,
@@ -120,8 +120,8 @@ pub enum Event {
     Online {
         cpu: u32,
     },
-    /// A virtual machine was copied: mixes as `Device` does, and reseeds if the core is ready
-    /// (`add_vmfork_randomness`).
+    /// A virtual machine was copied. `word` and `text` are mixed as in `Device`, and the core is reseeded if it is
+    /// ready (`add_vmfork_randomness`).
     Vmfork {
         word: u64,
         text: Text,
@@ -252,13 +252,13 @@ pub enum Answer {
     Again,
     /// `EINVAL`: a flag is unknown, or two flags exclude each other.
     Invalid,
-    /// `ENODATA`: a reseed of a core that is not ready.
+    /// `ENODATA`: the call asks for a reseed, and the core is not ready.
     NoData,
     /// `EINTR`: the call waited until no caller was left that could make the core ready.
     Interrupted,
     /// A tick that reseeded.
     Fired,
-    /// A tick that found the timer not due.
+    /// A tick that did not reseed, since the timer was not due.
     Idle,
     /// An act that was not done.
     Unused,

@@ -44,8 +44,8 @@ pub fn spells_bytes(field: &[u8]) -> bool
     is_lower_hex(field)
 }
 
-/// Decodes a field that is not empty and has two digits for each byte of `out`. Returns whether the field spells bytes.
-/// If it does, they fill `out`; if not, `out` is unchanged.
+/// Decodes a field that is not empty and is twice as long as `out`. Returns whether the field spells bytes. If it does,
+/// the bytes fill `out`; if not, `out` is unchanged.
 pub fn decode(field: &[u8], out: &mut [u8]) -> bool
     requires some { 0 < length field.now }
     requires twice { length field.now ≡ 2 * length out.old }

@@ -105,7 +105,8 @@ pub fn text_is_script_or_faulty()
     ensures { TextIsScriptOrFaulty }
 {}
 
-/// A caller's order has the steps of its ancestors, up to the visit that forks it, and then its own steps.
+/// A caller's order has the steps of its ancestors, up to the visit that forks the caller, and then the caller's own
+/// steps.
 #[tactic(auto, using(crate::proofs::History::CallerOrders::order_is_start_and_own))]
 pub fn order_is_start_and_own()
     ensures { OrderIsStartAndOwn }
@@ -118,7 +119,8 @@ pub fn start_is_a_front()
     ensures { StartIsAFront }
 {}
 
-/// Whether a look is allowed depends on its caller's earlier steps only through the greatest generation seen in them.
+/// Whether a look is allowed depends on its caller's earlier steps only through the greatest generation seen in these
+/// steps.
 #[tactic(auto, using(crate::proofs::History::CallerOrders::looks_are_counted))]
 pub fn looks_are_counted()
     ensures { LooksAreCounted }

@@ -1,4 +1,4 @@
-//! Notes: entries of the pool's list that only refer to their bytes, which the caller keeps.
+//! Notes: entries of the pool's list that only refer to their bytes. The caller keeps the bytes.
 
 /// A note: an entry of the pool's list that refers to its bytes. The caller hands the note over after a visit of the
 /// pool. `specs/Lanes/PoolNotes` defines the entry of each note.

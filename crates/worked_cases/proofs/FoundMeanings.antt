@@ -195,7 +195,7 @@ by_vgetrandom lists before n flags acts line =
       };
     }) (wipes_found acts (points_of h.steps)) (acts_found lists before.setting (is_reached (points_of h.steps)) acts)
 
--- `effects` begin with a look, and `rest` follow
+-- `effects` begin with a look, and `rest` are the effects after it
 pub record LookFound (effects : List Effect) : Type 0 where
   pub look : ℕ
   pub rest : List Effect

@@ -26,7 +26,7 @@ pub record HostFound (set : Setting) (Leads : List HostStep → Outcome → Type
   pub leads : Leads steps outcome
   pub shows : Shows set steps effects
 
--- `effects` begin with those of one attempt of a vgetrandom call, and `rest` follow
+-- `effects` begin with the effects of one attempt of a vgetrandom call, and `rest` are the effects after it
 pub record AttemptFound (set : Setting) (n c : ℕ) (s : VgetrandomState) (effects : List Effect) : Type 0 where
   pub steps : List HostStep
   pub attempt : Attempt
@@ -137,8 +137,8 @@ attempt_found set n c wiped s (looked g ∷ effects) = by ((state_left (wiped St
     by false e = keyed_found set n c g wiped s e effects
 attempt_found set n c wiped s _ = None
 
--- finds the steps after an attempt: no steps if the attempt ended with `holds`, and those of the last argument if it
--- ended with `outdated`
+-- finds the steps after an attempt: if the attempt ended with `holds`, no steps; if it ended with `outdated`, the steps
+-- of the last argument
 abbrev after_found : (set : Setting) (n flags : ℕ) (Outdated : ℕ → VgetrandomState → List HostStep → Outcome → Type 0)
     (end : AttemptEnd) (attempt : Attempt) (effects : List Effect) →
     Option (HostFound set (Outdated attempt.next_block attempt.state) effects) →

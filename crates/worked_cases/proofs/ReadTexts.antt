@@ -16,7 +16,7 @@ use Rattle.key_names.specs.Texts.ScriptFaults.{parts, word_of, bytes_of}
 use Rattle.key_names.specs.Transcripts.SeenLine.{SeenLine, Shown, no_data, bytes, count}
 use Rattle.key_names.specs.Texts.TranscriptGrammar.{answer_text}
 
--- the two numbers of `field`, which `byte` separates
+-- the two numbers in `field`, separated by `byte`
 abbrev two_numbers : ℕ → List ℕ → ℕ × ℕ
 two_numbers byte field = of_parts (parts byte field)
   where

@@ -98,7 +98,7 @@ abbrev gives_script : (r : Result Script ScriptFault) → Option (r ≡ Ok (scri
 gives_script (Ok script) = Some refl
 gives_script (Err fault) = None
 
--- `input` is the text of a script, and `output` the text of a transcript
+-- `input` is the text of a script, and `output` is the text of a transcript
 pub record TextsFound (input output : List ℕ) : Type 0 where
   pub script_is : IsScript (script_in input) input
   pub lines_are : IsTranscriptText output (lines_in input output)
@@ -193,7 +193,8 @@ fails_first clause input output lanes e =
 
 -- ---- Steps that have no form (allowed pattern)
 
--- `input` is the text of a script, `output` that of a transcript, and the clauses on lines and marks hold for them
+-- `input` is the text of a script, `output` is the text of a transcript, and the clauses on lines and marks hold for
+-- them
 pub record FrontFound (input output : List ℕ) : Type 0 where
   pub texts : TextsFound input output
   pub lines : HasLines (script_in input) (lines_in input output)

@@ -105,8 +105,7 @@ visit_of_no_cpu_fails = no_form visit_of_no_cpu.script (transcript_with visit_of
     (front_found visit_of_no_cpu.script (transcript_with visit_of_no_cpu.lines)) refl
     (λ made. no_stamp made.book.cpus _ made.forms.cpus made.forms.visits.conform.1.1.1.1.0)
 
--- `call`, the first call of child 1, has a meaning that begins with the vgetrandom states of a new caller, which are
--- wiped
+-- `call`, the first call of child 1, has a meaning that begins with the wiped vgetrandom states of a new caller
 pub record ChildBegins (lists : Lists) (set : Setting) (call : Call) : Type 0 where
   pub m : CallMeaning
   pub begins : m.before ≡ caller_start set

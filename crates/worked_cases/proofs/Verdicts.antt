@@ -42,7 +42,7 @@ no_hardware = replicate 32 0
 abbrev nobody : Who
 nobody = record { caller = 0; event = 0; step = 0 }
 
--- the visit at `place` of `lane`, made of its entry and its mark, which is searched in the given marks
+-- the visit at `place` of `lane`, made of its entry and its mark. The mark is searched for in the given marks
 abbrev visit_at : {E : Type 0} → LaneId → ℕ → E → List MarkBy → Visit E
 visit_at lane place e [] = record { stamp = 0; who = nobody; entry = e }
 visit_at lane place e (by ∷ marks) =

@@ -32,6 +32,6 @@ siphash_start = record {
   s3 = bit_xor 0x7465646279746573 0x0f0e0d0c0b0a0908;
 }
 
--- the hash that the given words make in SipHash's last four rounds
+-- the hash that SipHash's last four rounds make of the given words
 abbrev pub finished : FastWords → ℕ
 finished s = let t = rounds 4 (record s { s2 = bit_xor s.s2 0xff }) in bit_xor (bit_xor t.s0 t.s1) (bit_xor t.s2 t.s3)

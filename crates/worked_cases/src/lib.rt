@@ -1,8 +1,8 @@
 //! Worked cases of scripts and transcripts, each as the contract of a function without code. The prover evaluates the
 //! definitions on each case, and uses lemmas of `transcript_text`. No code of the program runs.
 //!
-//! Every transcript was made by an implementation that shares nothing with this repository. The bytes of all but three
-//! are those of the kernel's own C code (drivers/char/random.c, lib/vdso/getrandom.c).
+//! Every transcript was made by an implementation that shares nothing with this repository. In all but three of them,
+//! the bytes are those that the kernel's own C code makes (drivers/char/random.c, lib/vdso/getrandom.c).
 //!
 //! # Example
 //!
@@ -23,8 +23,8 @@
 //!   states that a transcript is lawful for its script, down to every byte. It also states, for each near miss, which
 //!   clause is the first that fails.
 //! - [`unfit_steps`]: for each transcript, the clause on forms is the first that fails.
-//! - [`refusal::near_misses_are_refused`]: if a clause is the first that fails for a text, the text is not that of a
-//!   lawful transcript for the same script.
+//! - [`refusal::near_misses_are_refused`]: if a clause is the first that fails for a transcript, the transcript is not
+//!   lawful for its script.
 //! - [`refused_books`]: books and lists that the definitions refuse.
 //! - [`rules`]: the kernel's small rules on example numbers.
 //! - [`script_faults`]: the first faults of some scripts.

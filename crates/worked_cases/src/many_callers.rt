@@ -9,7 +9,7 @@ pub fn both_wait()
     ensures { Holds both_wait_one_lawful_example }
 {}
 
-/// A caller waits until another credits bits. This is one order of many.
+/// A caller waits until another caller credits bits. This is one order of many.
 #[tactic(auto, using(crate::proofs::CallerLanes::waiter_resumes_one_lawful_example_holds))]
 pub fn waiter_resumes()
     ensures { Holds waiter_resumes_one_lawful_example }

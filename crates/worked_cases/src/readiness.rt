@@ -23,7 +23,7 @@ pub fn first_use_after_credit()
     ensures { Holds first_use_after_credit }
 {}
 
-/// Before the first credit each read extracts a root (new base key).
+/// While fewer than 128 bits are credited, each read that is served extracts a root (new base key).
 #[tactic(auto, using(crate::proofs::ReadinessLanes::empty_base_extracts_each_time_holds))]
 pub fn empty_base_extracts_each_time()
     ensures { Holds empty_base_extracts_each_time }

@@ -1,4 +1,4 @@
-//! A near miss is refused: for each one, some clause is the first that fails.
+//! A near miss (a changed transcript) is refused, since some clause is the first that fails for it.
 ghost use Rattle.worked_cases.specs.Refusal.{FailsIsRefused};
 
 /// If a clause is the first that fails for the texts of a script and of a transcript, the transcript is not lawful for

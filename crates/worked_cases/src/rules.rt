@@ -48,7 +48,8 @@ pub fn reseed_intervals()
         ≡ Some 1000 ∷ Some 1000 ∷ Some 2000 ∷ Some 2000 ∷ Some 2000 ∷ Some 3000 ∷ [] }
 {}
 
-/// SipHash-2-4 of no bytes under the published key 00 01 .. 0f, computed with the round that mixes samples.
+/// SipHash-2-4 of no bytes under the published key 00 01 .. 0f, computed with the same round that mixes samples into a
+/// fast pool.
 #[tactic(auto, using(crate::proofs::WorkedRules::siphash_of_nothing))]
 pub fn siphash_of_nothing()
     ensures { finished (rounds 2 siphash_start) ≡ 0x726fdb47dd0e0e31 }

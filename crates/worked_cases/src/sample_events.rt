@@ -15,7 +15,8 @@ pub fn irq_at_1001_dumps()
     ensures { Holds irq_at_1001_dumps }
 {}
 
-/// Input events are credited by their times. An event that repeats a value is credited with no bits.
+/// The differences between the moments of input events determine their credit. An event that repeats a value is
+/// credited with no bits.
 #[tactic(auto, using(crate::proofs::SampleLanes::input_timer_holds))]
 pub fn input_timer()
     ensures { Holds input_timer }

@@ -2,7 +2,7 @@
 ghost use Rattle.worked_cases.specs.Runs.{Holds};
 ghost use Rattle.worked_cases.specs.VreadActs.{act_has_the_cpu_of_its_read, act_conforms_at_its_point, act_before_a_fork};
 
-/// A nested read uses the CPU of the read around it, even if the script lists the nested read while the caller is on
+/// A nested read uses the CPU of the outer read, even if the script lists the nested read while the caller is on
 /// another CPU.
 #[tactic(auto, using(crate::proofs::ActLanes::act_has_the_cpu_of_its_read_holds))]
 pub fn act_has_the_cpu_of_its_read()

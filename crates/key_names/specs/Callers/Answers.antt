@@ -40,8 +40,8 @@ system_answer flags effects =
     else (if found_unready effects && (is_nonblock flags && not (is_insecure flags)) then Again
     else (if was_interrupted effects then Interrupted else Done))
 
--- the answer of a tick: `Idle` if its only effect is a visit of the base. Otherwise the tick extracted a root, and the
--- answer is `Fired`
+-- the answer of a tick: `Idle` if the tick's only effect is a visit of the base. Otherwise the tick extracted a root,
+-- and the answer is `Fired`
 abbrev pub tick_answer : List Effect → Answer
 tick_answer (at_base v ∷ []) = Idle
 tick_answer _ = Fired

@@ -9,7 +9,7 @@ use Rattle.key_names.specs.Callers.Effects.{Effect}
 use Rattle.key_names.specs.Callers.History.{ancestors_steps, inherited_steps, caller_orders, calls_steps, through_visit}
 use Rattle.key_names.specs.Callers.History.{seen, seen_after, LookConforms, LooksConform}
 
--- the steps that come before the own steps of caller c: those of its ancestors, up to the visit that forks the caller
+-- the steps before caller c's own steps: the steps of its ancestors, up to the visit that forks caller c
 abbrev pub start_of : List (List Call) → ℕ → List Step
 start_of callers c = inherited_steps (ancestors_steps callers c) (parent_from c 0 callers)
 

@@ -43,7 +43,7 @@ Cross set none effects = effects ≡ []
 Cross set ready effects = Rooted set (λ r. Reseeded r set.now) effects
 Cross set early effects = Rooted set (λ r. Early (Some r)) effects ⊎ BaseOnly (Early None) effects
 
--- DRAW: a read from the base, which names a root if the base is Empty
+-- DRAW: a read from the base. If the base is Empty, the read names a root
 abbrev pub DrawForm : Setting → Taken → List Effect → Type 0
 DrawForm set taken effects = Rooted set (λ r. Draw (Some r) taken) effects ⊎ BaseOnly (Draw None taken) effects
 
@@ -72,8 +72,7 @@ CpuReadForm set taken effects = PlainRead set taken effects ⊎ RefilledRead set
 abbrev pub Looked : (ℕ → List Effect → Type 0) → List Effect → Type 0
 Looked P effects = (g : ℕ) × (rest : List Effect) × (effects ≡ looked g ∷ rest) × P g rest
 
--- USER after its first look, which found generation g: a read from the base, which needs g to be 0, or a read from the
--- CPU
+-- USER after its first look, which found generation g: a read from the base (only if g is 0), or a read from the CPU
 abbrev pub ReadForm : Setting → Taken → ℕ → List Effect → Type 0
 ReadForm set taken g rest = ((g ≡ 0) × DrawForm set taken rest) ⊎ CpuReadForm set taken rest
 
@@ -106,7 +105,8 @@ LookedForm set n flags g rest =
 abbrev pub SysForm : Setting → ℕ → ℕ → List Effect → Type 0
 SysForm set n flags effects = MatchBool (is_bad flags) (effects ≡ []) (Looked (LookedForm set n flags) effects)
 
--- a pool entry that credits bits, and the effects of the threshold that the credit crosses
+-- the effects are a visit of the pool with this entry, and then the effects of the threshold that the entry's credit
+-- crosses
 pub record CreditForm (set : Setting) (entry : PoolEntry) (effects : List Effect) : Type 0 where
   pub pool : PoolVisit
   pub rest : List Effect
@@ -186,7 +186,8 @@ IntForm set width g rest =
     (g ≡ 0) × (DrawForm set (Kernel width) rest ⊎ CpuReadForm set (Kernel width) rest)
     ⊎ (1 ≤ g) × (BatchForm set width rest ⊎ RefilledBatch set width rest)
 
--- the effects after a look that found generation g: a reseed if the core is ready (g is at least 1), and otherwise none
+-- the effects after a look that found generation g: a reseed if the core is ready (g is at least 1), and otherwise no
+-- effects
 abbrev pub ReseedForm : Setting → ℕ → List Effect → Type 0
 ReseedForm set g rest = (g ≡ 0) × (rest ≡ []) ⊎ (1 ≤ g) × Rooted set (λ r. Reseeded r set.now) rest
 

@@ -48,7 +48,7 @@ IsMix (Input word kind code value now) = ⊥
 IsMix Bits = ⊥
 IsMix (Extract hw base_place) = ⊥
 
--- the effect is no visit of a CPU, and no visit of the pool that mixes bytes
+-- the effect is neither a visit of a CPU nor a visit of the pool with a `Mix` entry
 abbrev pub IsCrossing : Effect → Type 0
 IsCrossing (at_pool v) = IsMix v.entry → ⊥
 IsCrossing (at_cpu v) = ⊥

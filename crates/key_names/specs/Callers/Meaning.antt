@@ -140,7 +140,7 @@ ActsMean set is_reached (bound ∷ acts) [] = ⊥
 ActsMean set is_reached (bound ∷ acts) (m ∷ ms) =
     MatchBool (is_reached bound) (ActMeans set bound.act m) (m ≡ unused_line) × ActsMean set is_reached acts ms
 
--- a copy of n bytes out of the current state: the look before `rest` is the line's only look
+-- a copy of n bytes out of the current state: the look before `rest` is the line's only step
 pub record ByLocalCopy (n : ℕ) (rest : List Effect) (m : CallMeaning) : Type 0 where
   pub no_more : rest ≡ []
   pub answer : m.own.answer ≡ Done

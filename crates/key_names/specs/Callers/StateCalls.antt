@@ -36,8 +36,8 @@ abbrev pub entries_of_uses : VgetrandomState → List StateUse → List VEntry
 entries_of_uses s [] = []
 entries_of_uses s (u ∷ uses) = entries_of_use s u ++ entries_of_uses (state_after_use s u) uses
 
--- after the uses of a state, the state's list is in order, and its served bytes are 0. The list is lawful if its rekeys
--- take reads of 32 bytes
+-- after the uses of a state, the state's list is in order, and the served bytes of the state's batch are 0. The list is
+-- lawful if each rekey takes its key from a user's read of 32 bytes
 pub record LeavesLawful (caller state : ℕ) (es : List VEntry) (s : VgetrandomState) : Type 0 where
   pub ordered : OrderedStateList caller state es
   pub lawful : (cpu_list : ℕ → List CpuEntry) → AllByRecursion (TakesRead cpu_list) es →

@@ -42,7 +42,7 @@ last_place [] = None
 last_place (effect ∷ []) = place_of effect
 last_place (effect ∷ next ∷ effects) = last_place (next ∷ effects)
 
--- the error that an answer stands for, or None if the answer is no error
+-- the error of an answer, or None if the answer is no error
 abbrev pub errno_of : Answer → Option Errno
 errno_of Done = None
 errno_of Again = Some EAGAIN
@@ -61,8 +61,8 @@ answer_with (Some errno) effects = failed errno
 abbrev pub answer_after : ℕ → List Effect → SystemAnswer
 answer_after flags effects = answer_with (errno_of (system_answer flags effects)) effects
 
--- the effects begin with those of a system call for n bytes, which gives `answer`, and `Rest` holds for the effects
--- after that call
+-- the effects begin with the effects of a system call for n bytes. The call gives `answer`, and `Rest` holds for the
+-- effects after that call
 pub record SystemCallShows (set : Setting) (n flags : ℕ) (answer : SystemAnswer) (Rest : List Effect → Type 0)
     (effects : List Effect) : Type 0 where
   pub call : List Effect
@@ -122,8 +122,8 @@ is_wipe ReseedAct = false
 abbrev pub is_wiped : List BoundAct → Point → Bool
 is_wiped acts point = list_any (λ bound. is_same_point bound.point point && is_wipe bound.act) acts
 
--- the first attempt wipes the state at exactly those of its points that have an act that wipes; the second attempt
--- never wipes the state
+-- the first attempt wipes the state at a point if and only if an act at this point wipes it; the second attempt never
+-- wipes the state
 pub record WipesConform (acts : List BoundAct) (points : List PointReached) : Type 0 where
   pub first : AllByRecursion (λ reached. reached.wiped ≡ is_wiped acts reached.point) (first_points points)
   pub second : AllByRecursion (λ reached. reached.wiped ≡ false) (second_points points)

@@ -29,8 +29,8 @@ copy_bytes s c n =
 abbrev pub state_of_same_batch : VgetrandomState → ℕ → VgetrandomState
 state_of_same_batch s n = record s { batch = with_zeros s.pos n s.batch; pos = s.pos + n }
 
--- the state with a new batch and a new key, which are the key's keystream from block c on. The first r bytes of the new
--- batch are served
+-- the state with a new batch and a new key, both from the old key's keystream from block c on. The first r bytes of the
+-- new batch are served
 abbrev pub state_of_new_batch : VgetrandomState → ℕ → ℕ → VgetrandomState
 state_of_new_batch s c r = record s {
   batch = with_zeros 0 r (keystream s.key (64 * c) 96);
@@ -50,7 +50,7 @@ state_after_copy s c n =
 abbrev pub block_after_copy : VgetrandomState → ℕ → ℕ → ℕ
 block_after_copy s c n = if has_left s n then c else c + whole_blocks s n + 2
 
--- the entry for serving the bytes of the batch from byte `pos` on; serving no bytes makes no entry
+-- the entry for serving bytes of the batch from byte `pos` on. If no bytes are served, there is no entry
 abbrev pub serve_entry : ℕ → ℕ → List VEntry
 serve_entry pos zero = []
 serve_entry pos (suc len) = Serve pos (suc len) ∷ []

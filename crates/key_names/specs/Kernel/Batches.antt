@@ -8,7 +8,7 @@ use Rattle.key_names.specs.declared.entries.CpuEntry.TheVariants.{Read, Int, Irq
 use Rattle.key_names.specs.Kernel.Keystream.{keystream}
 
 -- the last fill of a batch: the key in use at the fill, the fill's place in the CPU's list, the number of integers that
--- the batch has served since, and the look of the fill
+-- the batch has served since, and the generation that the fill's look found
 pub record Fill : Type 0 where
   pub key : Option KeyName
   pub place : ℕ

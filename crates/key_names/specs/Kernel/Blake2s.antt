@@ -46,8 +46,8 @@ mixed_at v a b c d x y =
     let w = mixed (slice_index v a) (slice_index v b) (slice_index v c) (slice_index v d) x y in
     slice_set (slice_set (slice_set (slice_set v a w.0) b w.1) c w.2) d w.3
 
--- one round, which takes the sixteen message words in its own order: G on the columns, and then on the diagonals
--- (section 3.2)
+-- one round: G on the columns, and then on the diagonals (section 3.2). `m` has the sixteen message words in the order
+-- of this round
 unfoldable pub round : List ℕ → List ℕ → List ℕ
 round v m =
     let v0 = mixed_at v 0 4 8 12 (slice_index m 0) (slice_index m 1) in
@@ -105,7 +105,7 @@ key_len (Some key) = 32
 abbrev pub block_bytes : List ℕ → ℕ → List ℕ
 block_bytes bytes i = take 64 (drop (64 * i) bytes ++ replicate 64 0)
 
--- block i of a message, if it is not the last
+-- block i of a message, if this block is not the last
 abbrev pub inner_block : List ℕ → ℕ → Block
 inner_block bytes i = record { bytes = block_bytes bytes i; count = 64 * (i + 1) % 2 ^ 64; is_last = false }
 
@@ -127,7 +127,7 @@ abbrev pub blocks : List ℕ → List Block
 blocks bytes = inner_blocks bytes (inner_count bytes) ++ last_block bytes ∷ []
 
 -- the hash words before any block. The first word of the parameter block has the length of the hash, the length of the
--- key, fanout 1 and depth 1; it is xored into the first word (section 2.5)
+-- key, fanout 1 and depth 1; this word is xored into the first word of the initialization vector (section 2.5)
 abbrev pub start_words : ℕ → List ℕ
 start_words key_bytes =
     slice_set iv 0 (bit_xor (slice_index iv 0) (from_le_bytes w32 (32 ∷ key_bytes ∷ 1 ∷ 1 ∷ [])))

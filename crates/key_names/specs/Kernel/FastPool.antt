@@ -12,8 +12,7 @@ pub record FastWords : Type 0 where
   pub s2 : ℕ
   pub s3 : ℕ
 
--- the words; the count, with 32 bits, of which bit 31 marks a pending dump (MIX_INFLIGHT); and the moment of the last
--- dump
+-- the words; the 32-bit count, whose bit 31 marks a pending dump (MIX_INFLIGHT); and the moment of the last dump
 pub record FastPool : Type 0 where
   pub words : FastWords
   pub count : ℕ

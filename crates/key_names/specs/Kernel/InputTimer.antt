@@ -31,8 +31,8 @@ binary_digits n = length (digits_of 2 n)
 abbrev pub least_delta : InputTimer → ℕ → ℕ
 least_delta t now = min (nat_abs (delta t now)) (min (nat_abs (delta2 t now)) (nat_abs (delta3 t now)))
 
--- the bits that an input event at this moment credits: the number of binary digits of half the least difference, cut to
--- 32 bits (fls), and at most 11
+-- the bits that an input event at this moment credits, at most 11. Half the least difference is cut to 32 bits, and the
+-- number of its binary digits is credited (fls)
 abbrev pub timer_bits : InputTimer → ℕ → ℕ
 timer_bits t now = min (binary_digits (least_delta t now / 2 % 2 ^ 32)) 11
 

@@ -1,5 +1,6 @@
--- A vgetrandom call, for any host: which steps of the host lead to which state, ending and entries. Each point has its
--- own relation for the rest of the attempt, so a definition or a proof can begin at any point.
+-- A vgetrandom call, for any host: which steps of the host lead to which state, ending and entries. The host is the
+-- code around the call: it publishes generations and answers system calls. Each point has its own relation for the rest
+-- of the attempt, so a definition or a proof can begin at any point.
 use Rattle.std.specs.Prelude.{ℕ, ◌≡◌, Bool, true, false, ◌==◌, MatchBool, Option, Some, None, List, [], ◌∷◌, ◌++◌}
 use Rattle.std.specs.Prelude.{if◌then◌else◌}
 use Rattle.key_names.specs.declared.entries.VEntry.{VEntry}
@@ -29,8 +30,8 @@ pub data HostStep : Type 0 where
   system_call : ℕ → ℕ → SystemAnswer → HostStep
   at_point : Point → Bool → HostStep
 
--- how an attempt ended: at its end the published generation was the state's (holds) or another one (outdated), or the
--- system call for a new key failed (not_keyed)
+-- how an attempt ended. At its end, the published generation was the state's generation (`holds`) or another one
+-- (`outdated`). Or the system call for a new key failed (`not_keyed`)
 pub data AttemptEnd : Type 0 where
   holds outdated not_keyed : AttemptEnd
 
@@ -49,7 +50,7 @@ prefix_attempt entries attempt = record attempt { entries = entries ++ attempt.e
 abbrev pub wipe_entry : Bool → List VEntry
 wipe_entry wiped = if wiped then Wipe ∷ [] else []
 
--- the entry of a new key names the CPU visit that gave its bytes
+-- the entry for a new key names the CPU visit that gave the key's bytes
 abbrev pub rekey_entry : Option CpuPlace → List VEntry
 rekey_entry None = []
 rekey_entry (Some at) = Rekey at.cpu at.place ∷ []
@@ -114,8 +115,8 @@ pub record FromWritten (n c : ℕ) (s : VgetrandomState) (steps : List HostStep)
   pub steps_are : steps ≡ system_call 32 0 answer ∷ rest
   pub goes_on : AfterKeyRead n c answer s rest attempt
 
--- from the point Start on: if the state's generation is not the published one, the state takes the published
--- generation, and then a new key
+-- from the point Start on: if the state's generation differs from the published generation, the state takes the
+-- published generation, and then a new key
 abbrev pub FromStart : ℕ → ℕ → ℕ → VgetrandomState → List HostStep → Attempt → Type 0
 FromStart n c published s steps attempt =
     MatchBool (s.generation == published) (AtPoint Serve (FromServe n c) s steps attempt)
@@ -128,7 +129,8 @@ pub record IsAttempt (n c : ℕ) (s : VgetrandomState) (steps : List HostStep) (
   pub steps_are : steps ≡ publishes published ∷ rest
   pub goes_on : AtPoint Start (FromStart n c published) s rest attempt
 
--- how a call ended, and with which bytes: it asked for no bytes; an attempt held; or the system call gave the answer
+-- how a call ended, and with which bytes: the call asked for no bytes, an attempt held, or the system call gave the
+-- answer
 pub data Ending : Type 0 where
   no_bytes : Ending
   by_batch : List ℕ → Ending
@@ -143,13 +145,14 @@ pub record Outcome : Type 0 where
 abbrev pub prefix_outcome : List VEntry → Outcome → Outcome
 prefix_outcome entries outcome = record outcome { entries = entries ++ outcome.entries }
 
--- the host's only step left is a system call with the vgetrandom call's n and flags, and its answer ends the call
+-- the host's only step left is a system call with the vgetrandom call's n and flags. The answer of this system call
+-- ends the vgetrandom call
 pub record BySystem (n flags : ℕ) (s : VgetrandomState) (steps : List HostStep) (outcome : Outcome) : Type 0 where
   pub answer : SystemAnswer
   pub steps_are : steps ≡ system_call n flags answer ∷ []
   pub outcome_is : outcome ≡ record { ending = by_system answer; state = s; entries = [] }
 
--- the state after a call, which no longer uses it
+-- the state after a call: the call no longer uses the state
 abbrev pub state_after_call : VgetrandomState → VgetrandomState
 state_after_call s = record s { in_use = false }
 
@@ -195,9 +198,9 @@ pub record ByNothing (s : VgetrandomState) (steps : List HostStep) (outcome : Ou
   pub steps_are : steps ≡ []
   pub outcome_is : outcome ≡ record { ending = no_bytes; state = s; entries = [] }
 
--- the rest of a call after the first published generation. If the core is not ready, the system call serves. Otherwise
--- a call for no bytes ends at once. For any other call the system call serves if the state is in use. If not, the call
--- marks the state as in use, and makes the first attempt
+-- the rest of a call after the first published generation. If the core is not ready, the system call serves. If the
+-- core is ready, a call for no bytes ends at once. For any other call, if the state is in use, the system call serves.
+-- If the state is not in use, the call marks it as in use, and makes the first attempt
 abbrev pub FromPublished : ℕ → ℕ → VgetrandomState → ℕ → List HostStep → Outcome → Type 0
 FromPublished n flags s published steps outcome =
     MatchBool (published == 0) (BySystem n flags s steps outcome)

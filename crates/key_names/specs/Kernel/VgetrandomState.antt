@@ -14,6 +14,6 @@ pub record VgetrandomState : Type 0 where
 abbrev pub wiped_state : VgetrandomState
 wiped_state = record { batch = replicate 96 0; key = replicate 32 0; generation = 0; pos = 0; in_use = false }
 
--- the state after a point: zeros if it was wiped there
+-- the state after a point: zeros if the state was wiped at that point
 abbrev pub state_left : Bool → VgetrandomState → VgetrandomState
 state_left wiped s = if wiped then wiped_state else s

@@ -98,8 +98,8 @@ state_value_step lists value Wipe = zero_key
 abbrev pub state_value_after : Lists → List VEntry → List ℕ
 state_value_after lists es = fold (state_value_step lists) zero_key es
 
--- the value of the key that refill `n` keeps. Refills are counted from 0, and `value` is the key's value before these
--- entries
+-- the value of the key that refill `n` keeps. Refills are counted from 0, and `value` is the value of the state's key
+-- before these entries
 abbrev pub refill_value_from : Lists → List ℕ → ℕ → List VEntry → List ℕ
 refill_value_from lists value n [] = []
 refill_value_from lists value zero (Refill from ∷ es) = refill_value value from
@@ -125,6 +125,6 @@ abbrev pub taken_bytes : List ℕ → Taken → List ℕ
 taken_bytes key (User n) = if nat_lt 32 n then keystream (keystream key 32 32) 64 n else keystream key 32 n
 taken_bytes key (Kernel n) = keystream key 32 n
 
--- the next integer of a fill of a CPU
+-- the next integer that CPU c serves from a fill
 abbrev pub next_int : Lists → ℕ → ℕ → Fill → List ℕ
 next_int lists c width fill = batched_int (cpu_used_at lists c fill.place) width fill.count

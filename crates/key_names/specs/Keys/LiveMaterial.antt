@@ -28,7 +28,7 @@ pub data KeyHolder : Type 0 where
   cpu_key : ℕ → KeyHolder
   state_key : ℕ → ℕ → KeyHolder
 
--- the holders of batches: a CPU for each width, or a vgetrandom state of a caller
+-- the holders of batches: a CPU, with one batch for each width, or a vgetrandom state of a caller
 pub data BatchHolder : Type 0 where
   cpu_batch : ℕ → ℕ → BatchHolder
   state_batch : ℕ → ℕ → BatchHolder
@@ -66,7 +66,8 @@ abbrev pub served_len : Lists → BatchHolder → ℕ
 served_len lists (cpu_batch c width) = batch_pos width ((cpu_end lists c).fills width)
 served_len lists (state_batch caller state) = (state_end lists caller state).pos
 
--- the entry `e` replaces `key`: it names a root, and `key` is the base's key; or it erases, and `key` is the key in use
+-- the entry `e` replaces `key`: either `e` names a root, and `key` is the base's key before `e`; or `e` erases, and
+-- `key` is the key in use
 abbrev pub BaseReplaces : KeyName → BaseState → BaseEntry → Type 0
 BaseReplaces key s e =
     (IsSome (root_of e) × (s.key ≡ Some key)) ⊎ (IsTrue (base_erases e) × (base_key_in_use e s.key ≡ Some key))
@@ -161,7 +162,7 @@ pub record HoldsNamed (lists : Lists) : Type 0 where
   pub rests : (a : BatchHolder) (span : Span) → live_rest lists a ≡ Some span →
       drop (served_len lists a) (replayed_batch lists a) ≡ keystream (value_of lists span.key) span.from span.len
 
--- a lawful book is disjoint, and it is erased if the batches are those of its replay
+-- a lawful book is disjoint. If its batches are the batches of its replay, it is erased too
 abbrev pub LawfulIsDisjoint : Type 0
 LawfulIsDisjoint = (lists : Lists) → LawfulBook lists → IsDisjoint lists
 
@@ -172,8 +173,8 @@ LawfulIsErased = (lists : Lists) → LawfulBook lists → IsErased lists (replay
 abbrev pub LawfulHoldsNamed : Type 0
 LawfulHoldsNamed = (lists : Lists) → LawfulBook lists → HoldsNamed lists
 
--- a book with half-finished visits (HalfFinishedBook) is disjoint too, and erased if the batches are those of its
--- replay
+-- a book with half-finished visits (HalfFinishedBook) is disjoint too. If its batches are the batches of its replay, it
+-- is erased
 abbrev pub HalfFinishedIsDisjoint : Type 0
 HalfFinishedIsDisjoint = (lists : Lists) → HalfFinishedBook lists → IsDisjoint lists
 

@@ -74,8 +74,8 @@ abbrev pub batch_uses : ℕ → Option Fill → List Use
 batch_uses width None = []
 batch_uses width (Some fill) = named_use served fill.key (32 + width * fill.count) width
 
--- the uses of an entry of CPU c in the state s. `rekeys` is true for each place where a vgetrandom state takes the read
--- as its key
+-- the uses of an entry of CPU c in the state s. `rekeys` is true for each place whose read a vgetrandom state takes as
+-- its key
 abbrev pub cpu_uses_at : ℕ → (ℕ → Bool) → CpuState → CpuEntry → List Use
 cpu_uses_at c rekeys s (Read look refill taken) =
     named_uses (cpu_key_in_use (Read look refill taken) s.key)

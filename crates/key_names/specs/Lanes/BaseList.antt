@@ -22,11 +22,11 @@ pub record BaseState : Type 0 where
   pub generation : ℕ
   -- the moment at which the reseed timer is due, in milliseconds
   pub timer : Option ℕ
-  -- whether the system is young: no reseed at 120 seconds of uptime or later has computed an interval
+  -- whether the system is young: each reseed so far was at an uptime below 120 seconds
   pub early_boot : Bool
   -- the number of running callers
   pub running : ℕ
-  -- the next root must come from this pool place or a later one
+  -- the least pool place from which the next root may come
   pub roots : ℕ
   -- the name of the key
   pub key : Option KeyName
@@ -58,7 +58,7 @@ root_of Interrupt = None
 root_of Stall = None
 root_of Unstall = None
 
--- the CPU and the CPU's place that a refill names
+-- the CPU that a refill names, and the place in that CPU's list
 abbrev pub refill_of : BaseEntry → Option (ℕ × ℕ)
 refill_of (Early root) = None
 refill_of (Reseed root now) = None
@@ -100,8 +100,8 @@ base_key_in_use e key = root_or (root_of e) key
 abbrev pub base_key_after : ℕ → BaseEntry → Option KeyName → Option KeyName
 base_key_after i e key = if base_erases e then Some (Base i) else base_key_in_use e key
 
--- the least root that later entries may name, after an entry that names root `r` or no root. The roots that entries
--- name rise along the list
+-- the least root that entries after this one may name. The first argument is the root that this entry names, if any;
+-- `least` is the bound before this entry. So the named roots rise along the list
 abbrev pub roots_after : Option ℕ → ℕ → ℕ
 roots_after None least = least
 roots_after (Some r) least = suc r
@@ -172,7 +172,8 @@ timer_after early_boot Interrupt timer = timer
 timer_after early_boot Stall timer = timer
 timer_after early_boot Unstall timer = timer
 
--- the number of running callers after one more; the count has 32 bits and does not wrap
+-- the number of running callers after one more caller runs. The count has 32 bits and stays at its maximum instead of
+-- wrapping
 abbrev pub one_more : ℕ → ℕ
 one_more n = min (2 ^ 32 - 1) (n + 1)
 
@@ -213,7 +214,7 @@ abbrev pub IsDue : Option ℕ → ℕ → Type 0
 IsDue None now = ⊥
 IsDue (Some due) now = due ≤ now
 
--- the entry fits the base's state: its phase, timer, generation and count of running callers
+-- the entry fits the phase, the timer, the generation and the count of running callers in the base's state
 abbrev pub BaseFits : BaseState → BaseEntry → Type 0
 BaseFits s (Early (Some root)) = s.phase ≡ empty
 BaseFits s (Early None) = s.phase ≢ empty
@@ -231,7 +232,8 @@ BaseFits s Interrupt = (s.generation ≡ 0) × (s.running ≡ 0)
 BaseFits s Stall = ⊤
 BaseFits s Unstall = ⊤
 
--- a named root is above all roots named before it, and the root's extraction names the entry's place
+-- if the entry names a root, this root is above all roots named before, and the root's extraction names the entry's
+-- place
 abbrev pub RootConforms : List PoolEntry → BaseState → Option ℕ → Type 0
 RootConforms pool s None = ⊤
 RootConforms pool s (Some r) = (s.roots ≤ r) × (extraction_at pool r ≡ Some s.place)

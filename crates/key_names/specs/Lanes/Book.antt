@@ -11,7 +11,7 @@ use Rattle.key_names.specs.Lanes.BaseList.{LawfulBase, root_at, refill_at}
 use Rattle.key_names.specs.Lanes.CpuList.{LawfulCpu, base_refill_at}
 use Rattle.key_names.specs.Lanes.StateList.{LawfulStateList, rekey_at}
 
--- a visit of a lane; its place is its number in the lane's list
+-- a visit of a lane. The visit's place is its number in the lane's list, from 0
 pub record Visit (E : Type 0) : Type 0 where
   pub stamp : ℕ
   pub who : Who
@@ -75,8 +75,8 @@ pub record LawfulLanes (lists : Lists) : Type 0 where
   pub extractions : (p i : ℕ) → extraction_at lists.pool p ≡ Some i → ExtractionAnswered lists p i
   pub refills : (b c k : ℕ) → refill_at lists.base b ≡ Some (c, k) → RefillAnswered lists b c k
 
--- LawfulLanes, but visits may be half finished: the place that an extraction or a refill names may still be missing
--- from its list
+-- LawfulLanes, but visits may be half finished: an extraction may name a place that the base's list does not have yet,
+-- and a refill a place that the CPU's list does not have yet
 pub record HalfFinishedLanes (lists : Lists) : Type 0 where
   pub forward : ForwardLawful lists
   pub extractions : (p i : ℕ) → extraction_at lists.pool p ≡ Some i →
@@ -90,7 +90,7 @@ pub record StatePlace : Type 0 where
   pub state : ℕ
   pub place : ℕ
 
--- the read (its CPU and place) that an entry of a vgetrandom state takes as the state's key
+-- if an entry of a vgetrandom state is a rekey, the CPU and the place of the read that gives the state its key
 abbrev pub rekey_in : Lists → StatePlace → Option (ℕ × ℕ)
 rekey_in lists at = rekey_at (state_list lists at.caller at.state) at.place
 

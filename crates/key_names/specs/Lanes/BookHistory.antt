@@ -17,7 +17,7 @@ pub record Happening : Type 0 where
   pub stamp : ℕ
   pub who : Who
 
--- the visits of a lane's list; `place` is the place of the first
+-- the visits of a lane's list; `place` is the place of the first visit
 abbrev pub visits_from : {E : Type 0} → LaneId → ℕ → List (Visit E) → List Happening
 visits_from lane place [] = []
 visits_from lane place (visit ∷ visits) =

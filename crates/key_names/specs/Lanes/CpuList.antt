@@ -86,11 +86,11 @@ pub record LookFitsCpu (s : CpuState) (look : ℕ) : Type 0 where
   pub known : 1 ≤ look
   pub not_back : s.generation ≤ look
 
--- a read names no refill if and only if its look is the CPU's generation
+-- a read names no refill if and only if its look found the CPU's generation
 abbrev pub ReadNames : CpuState → ℕ → Option ℕ → Type 0
 ReadNames s look refill = (refill ≡ None) ↔ (look ≡ s.generation)
 
--- an integer names no refill if and only if it fills no batch, or its look is the CPU's generation
+-- an integer names no refill if and only if it fills no batch, or its look found the CPU's generation
 abbrev pub IntNames : CpuState → ℕ → Option ℕ → Bool → Type 0
 IntNames s look refill filled = (refill ≡ None) ↔ ((filled ≡ false) ⊎ (look ≡ s.generation))
 
@@ -107,7 +107,7 @@ pub record IntFits (s : CpuState) (look : ℕ) (refill : Option ℕ) (width : �
   pub fills : FillConforms s look width filled
   pub names : IntNames s look refill filled
 
--- the entry fits the CPU's state: its generation and batches
+-- the entry fits the generation and the batches in the CPU's state
 abbrev pub CpuFits : CpuState → CpuEntry → Type 0
 CpuFits s (Read look refill taken) = ReadFits s look refill
 CpuFits s (Int look refill width filled) = IntFits s look refill width filled
@@ -117,7 +117,7 @@ CpuFits s Prepare = ⊤
 CpuFits s Online = ⊤
 
 -- if an entry names refill `b`, the base's entry `b` is a refill for this CPU and this place. The base's generation
--- before that refill is at least the look
+-- before that refill is at least the generation that the look found
 abbrev pub RefillNames : List BaseEntry → ℕ → ℕ → ℕ → Option ℕ → Type 0
 RefillNames base c place look None = ⊤
 RefillNames base c place look (Some b) = (refill_at base b ≡ Some (c, place)) × (look ≤ generation_at base b)

@@ -67,7 +67,7 @@ base_place_of (Input word kind code value now) = None
 base_place_of Bits = None
 base_place_of (Extract hw base_place) = Some base_place
 
--- if the pool's entry at this place is an extraction, the base place that it names
+-- if the pool's entry at this place is an extraction, the base place that the extraction names
 abbrev pub extraction_at : List PoolEntry → ℕ → Option ℕ
 extraction_at pool p = option_and_then base_place_of (slice_get pool p)
 
@@ -75,7 +75,7 @@ extraction_at pool p = option_and_then base_place_of (slice_get pool p)
 abbrev pub root_of_extraction : PoolState → List ℕ → List ℕ
 root_of_extraction s hw = blake2s (Some (seed s)) (seed_block hw 1)
 
--- the root that an entry gives if it is an extraction in the state s, and otherwise no bytes
+-- the root that an entry gives if this entry is an extraction in the state s, and otherwise no bytes
 abbrev pub root_given : PoolState → Option PoolEntry → List ℕ
 root_given s (Some (Extract hw base_place)) = root_of_extraction s hw
 root_given s (Some (Mix text bits)) = []

@@ -1,4 +1,4 @@
--- The pool entry of each note. A note refers to bytes that the entry contains.
+-- The pool entry of each note. A note describes a pool entry, and refers to the bytes that the entry contains.
 use Rattle.key_names.specs.declared.entries.PoolEntry.{PoolEntry}
 use Rattle.key_names.specs.declared.entries.PoolEntry.TheVariants.{Mix, Input, Bits, Extract}
 use Rattle.key_names.specs.declared.notes.PoolNote.{PoolNote}

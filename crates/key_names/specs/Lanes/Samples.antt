@@ -59,7 +59,7 @@ visits_of book c = list_at book.cpus c
 -- an event's dump comes after the interrupt that made it due. An event with a dump mixes that dump into the pool, and
 -- nothing else
 pub record LawfulSamples (book : Book) : Type 0 where
-  -- each dump comes after an interrupt of the same event that made a dump due
+  -- each dump comes after an interrupt that made a dump due in the same event
   pub dump_is_due : (c k : ℕ) (who : Who) → DumpAt (visits_of book c) k who →
       (i : ℕ) × (i < k) × DueAt (visits_of book c) i who
   -- after an interrupt that makes a dump due, the event dumps

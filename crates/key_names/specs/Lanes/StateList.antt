@@ -12,8 +12,8 @@ use Rattle.key_names.specs.declared.entries.VEntry.TheVariants.{Rekey, Blocks, R
 use Rattle.key_names.specs.Lanes.CpuList.{taken_at}
 use Rattle.key_names.specs.Lanes.LawfulList.{LawfulFrom}
 
--- which entry has to follow. After a rekey (`new_key`), it is a wipe, blocks or a refill. After blocks (`refill_from`),
--- it is the refill from the next block
+-- which entry has to follow. After a rekey (`new_key`), a wipe, blocks or a refill has to follow. After blocks
+-- (`refill_from`), the refill from the next block has to follow
 pub data Expected : Type 0 where
   anything new_key : Expected
   refill_from : ℕ → Expected
@@ -23,7 +23,7 @@ pub record NamedState : Type 0 where
   pub place : ℕ
   -- the name of the key
   pub key : Option KeyName
-  -- the number of refills so far, including those from an unnamed key
+  -- the number of refills so far, including refills from a key without a name
   pub refills : ℕ
   -- the key in use at the last refill, and the block of its keystream at which the batch begins
   pub batch_key : Option KeyName
@@ -43,7 +43,7 @@ state_start = record {
   expected = anything;
 }
 
--- the name of the key that a refill keeps; if the key in use has no name, the kept key has none
+-- the name of the key that refill `n` keeps. If the key in use has no name, the kept key has no name
 abbrev pub refill_key : ℕ → ℕ → ℕ → Option KeyName → Option KeyName
 refill_key caller state n None = None
 refill_key caller state n (Some key) = Some (Vdso caller state n)
@@ -94,7 +94,7 @@ MayFollow s (Refill from) = MayRefill s.expected from
 MayFollow s (Serve pos len) = (s.expected ≡ anything) × (pos ≡ s.pos) × (pos + len ≤ 96)
 MayFollow s Wipe = MayStart s.expected
 
--- a rekey takes a user's read of 32 bytes; cpu_list gives each CPU's list
+-- a rekey takes its key from a user's read of 32 bytes; `cpu_list` gives each CPU's list
 abbrev pub TakesRead : (ℕ → List CpuEntry) → VEntry → Type 0
 TakesRead cpu_list (Rekey cpu cpu_place) = taken_at (cpu_list cpu) cpu_place ≡ Some (User 32)
 TakesRead cpu_list (Blocks from count) = ⊤
@@ -105,12 +105,12 @@ TakesRead cpu_list Wipe = ⊤
 abbrev pub StateMayCome : (ℕ → List CpuEntry) → NamedState → VEntry → Type 0
 StateMayCome cpu_list s e = MayFollow s e × TakesRead cpu_list e
 
--- each entry may follow those before it, and no entry is still missing after the last
+-- each entry may follow the entries before it, and no entry has to follow the last one
 pub record OrderedStateList (caller state : ℕ) (es : List VEntry) : Type 0 where
   pub comes : LawfulFrom MayFollow (state_step caller state) state_start es
   pub ends : (state_after caller state es).expected ≡ anything
 
--- the list is in order, and each rekey takes a read of 32 bytes
+-- the list is in order, and each rekey takes its key from a user's read of 32 bytes
 pub record LawfulStateList (cpu_list : ℕ → List CpuEntry) (caller state : ℕ) (es : List VEntry) : Type 0 where
   pub comes : LawfulFrom (StateMayCome cpu_list) (state_step caller state) state_start es
   pub ends : (state_after caller state es).expected ≡ anything

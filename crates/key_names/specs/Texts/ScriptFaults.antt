@@ -157,7 +157,7 @@ inside_of (point ∷ act ∷ len ∷ more) = do
   if bytes_eq act (codes "vread") then vread_at point field else Err UnknownWord
 inside_of _ = Err UnknownWord
 
--- `event` in a script of version `first` or later. In a script of an earlier version, the event's word is unknown
+-- `event`, if the script's version is `first` or later. In an earlier version, the event's word is unknown
 abbrev pub since : ℕ → ℕ → Result Event FaultKind → Result Event FaultKind
 since first version event = if nat_le first version then event else Err UnknownWord
 
@@ -330,7 +330,8 @@ at_line n (Err kind) = Err (record { line = n; kind = kind })
 abbrev pub is_unprintable : ℕ → Bool
 is_unprintable b = nat_lt b 0x20 || nat_lt 0x7e b
 
--- the first of the parts between line feeds, if it is a whole line. The last part has no line feed after it
+-- the first of the parts between line feeds, if it is a whole line. The last part is no whole line, since no line feed
+-- follows it
 abbrev pub line_of : List (List ℕ) → Result (List ℕ) FaultKind
 line_of [] = Err Unfinished
 line_of (tail ∷ []) = Err Unfinished

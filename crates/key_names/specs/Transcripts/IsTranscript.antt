@@ -222,8 +222,8 @@ pub record MadeBook (script : Script) (t : List (List SeenLine)) : Type 0 where
   pub marks : MarksConform script t
   pub forms : FormsConform script t book meanings
 
--- a clause is the first that fails: the clauses before it hold, and it does not. The last three clauses are about the
--- book that the steps make
+-- a clause is the first that fails: the clauses before it hold, and this clause does not. The last three clauses are
+-- about the book that the steps make
 abbrev pub FirstFails : Script → List (List SeenLine) → Clause → Type 0
 FirstFails script t lines_clause = ¬ HasLines script t
 FirstFails script t marks_clause = HasLines script t × (¬ MarksConform script t)

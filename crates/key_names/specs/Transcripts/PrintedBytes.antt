@@ -60,8 +60,8 @@ entries_of_call caller before m = record {
 abbrev pub no_entries : StateEntries → StateEntries
 no_entries es = record es { count = 0 }
 
--- the entries whose bytes a line prints: none, the entry of the line's last visit, or some of `own`. The entries `own`
--- are those that the line's call appended to a state's list
+-- the entries whose bytes a line prints: no entry, the entry of the line's last step if this step is a visit, or some
+-- of `own`. The line's call appended the entries `own` to a state's list
 pub data PrintsBy (own : StateEntries) (steps : List Step) (origins : List Origin) : Type 0 where
   by_none : origins ≡ [] → PrintsBy own steps origins
   by_visit : origins ≡ last_origin steps → PrintsBy own steps origins
