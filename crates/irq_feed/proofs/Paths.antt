@@ -43,7 +43,7 @@ path_in event (x ∷ xs) v w (u, one, more) =
 
 -- ---- A table of three lanes, after all its visits
 
--- if the stamps of marks climb, the marks are sorted by stamp, and so are those of one lane
+-- if the stamps of marks climb, the marks are sorted by stamp, and so are the marks of each lane
 all_above : (low high : ℕ) (marks : List MarkBy) → Climbs low (stamps_of marks) high →
     AllByRecursion (λ by. low ≤ by.mark.stamp) marks
 all_above low high [] climbs = tt
