@@ -21,7 +21,7 @@
 //! # Proved
 //!
 //! - [`Pool::mix`], [`Pool::credit`] and [`Pool::extract`]: if the pool matched a state of the pool's list before the
-//!   call, then after the call it matches the state that the call leads to.
+//!   call, it then matches the state that the call leads to.
 //! - [`Pool::credit`]: the result is the threshold that the bits crossed, and [`Crossing::Ready`] if they crossed both
 //!   thresholds.
 //! - [`Pool::extract`]: the result is the root that the definitions give for that state and these hardware bytes.

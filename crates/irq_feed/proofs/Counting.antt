@@ -86,7 +86,7 @@ none_after x xs f e = ⊎_elim
     (λ (t : (x.feeder == f ≡ false) × (x.feeder ≢ f)). sym (of_else x xs f t.1) ∙ e)
     (eqb_tells x.feeder f)
 
--- if all samples of a list are of feeders below `n`, the list's length is a sum over these feeders: each feeder adds
+-- let all samples of a list be of feeders below `n`. The list's length is a sum over these feeders: each feeder adds
 -- the number of its samples in the list
 pub counted : (n : ℕ) (xs : List Sample) → ((f : ℕ) → n ≤ f → of_feeder f xs ≡ [])
     → length xs ≡ sum_below n (λ f. length (of_feeder f xs))

@@ -100,8 +100,8 @@ module _ (feeds : Numbers) (d : ℕ → Bool) (taken items : List Sample) (pushe
       by near true e = none_of f (ends f near e) ∙ sym (done_late feeds d 0 f near e (omega arith))
       by near false e = whole f near e ∙ sym (done_through feeds d 0 f near e)
 
--- if `xs` has no sample of a direct feeder (one whose samples the worker itself mixes), each sample of `xs` is of a
--- feeder that is not direct
+-- if `xs` has no sample of a direct feeder, then the feeder of each sample of `xs` is not direct. The worker itself
+-- mixes a direct feeder's samples
 came_through : (d : ℕ → Bool) (xs : List Sample) → ((f : ℕ) → d f ≡ true → of_feeder f xs ≡ [])
     → AllByRecursion (λ (x : Sample). d x.feeder ≡ false) xs
 came_through d [] none = tt

@@ -74,8 +74,8 @@ sorted lane low high (by ∷ marks) climbs =
     )
     go false rest = rest
 
--- if the view `w` knows the visit of each mark, each mark of the lane `lane` has the place and the stamp of a visit in
--- that lane's list
+-- let the visit of each mark be known in the view `w`. Then each mark of the lane `lane` has the place and the stamp of
+-- a visit in that lane's list
 in_lane : (w : View) (lane : ℕ) (marks : List MarkBy) → AllByRecursion (IsKnown w) marks →
     AllByRecursion (MarksPlace (known_of w lane)) (lane_of lane marks)
 in_lane w lane [] all = tt

@@ -1,5 +1,5 @@
--- The rule of the queue: for each feeder, the samples that the worker took, followed by those in the queue, are the
--- feeder's first samples.
+-- The rule of the queue: for each feeder, the samples that the worker took, followed by the samples in the queue, are
+-- the feeder's first samples.
 use Rattle.std.specs.Prelude.{◌≡◌, ℕ, ◌+◌, ◌<◌, ◌≤◌, ⊤, List, [], ◌∷◌, ◌++◌, Option, Some, None}
 use Rattle.std.specs.List.{AllByRecursion}
 use mathlib.Core.Option.{some}

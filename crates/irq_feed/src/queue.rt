@@ -16,7 +16,7 @@ use std::marker::{Brand, PhantomData};
 /// The most samples that the queue can hold.
 pub const ROOM: usize = 64;
 
-/// The rule: for each feeder, the samples that the worker took, followed by those in the queue, are the feeder's
+/// The rule: for each feeder, the samples that the worker took, followed by the samples in the queue, are the feeder's
 /// first samples, in order.
 pub struct Ordered;
 

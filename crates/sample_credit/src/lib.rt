@@ -34,7 +34,8 @@
 //!
 //! # Tested only
 //!
-//! Nothing beyond what is proved. `sample_credit_tests` of `test_core` compares words with those of another SipHash.
+//! Nothing beyond what is proved. `sample_credit_tests` of `test_core` compares words with the words of another
+//! SipHash.
 //!
 //! # Differs from the kernel
 //!
