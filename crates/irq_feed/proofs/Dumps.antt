@@ -1,5 +1,5 @@
--- If all interrupts of a CPU come at one moment, the CPU makes a dump after each 1,024th. The lemmas give the bits of
--- the pool after these dumps.
+-- If all interrupts of a CPU come at moment 0, the CPU makes a dump after each 1,024th. The lemmas give the bits of the
+-- pool after these dumps.
 use Rattle.std.proofs.Common.{◌≡◌, inl, inr, ℕ, ◌+◌, ◌*◌, ◌/◌, ◌%◌, ◌<◌, ◌≤◌, ◌^◌, List, [], ◌∷◌, ◌++◌, length, map, refl, sym, ap, ◌∙◌, arith, true, false, cond, nat_le, ◌&&◌, ◌||◌, length-append, append_assoc, lit<}
 use Rattle.std.specs.Prelude.{nat_lt, min, max}
 use Rattle.std.specs.List.{fold}
