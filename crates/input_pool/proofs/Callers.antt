@@ -34,7 +34,8 @@ PoolConforms-mix pool s text bits conforms = record {
   capped = omega arith;
 }
 
--- a mix of `text` and then a credit of `bits` cross the threshold that the one entry `Mix text bits` crosses, or none
+-- a mix of `text` and then a credit of `bits` cross the same threshold as the one entry `Mix text bits`. Either both
+-- cross it, or neither crosses any
 pub crossing-mix : (before between after : PoolParts) (s : PoolState) (text : List ℕ) (bits : ℕ) → PoolConforms before s
     → PoolConforms between (mixed s text) → PoolConforms after (mixed_and_credited s text bits)
     → crossing between.bits after.bits ≡ crossing s.bits (pool_step s (Mix text bits)).bits

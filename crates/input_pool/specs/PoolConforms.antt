@@ -10,8 +10,8 @@ pub record PoolParts : Type 0 where
   pub hash : Hash
   pub bits : ℕ
 
--- the pool matches a state of its list: the hash matches the state's key and text, and the bits are the same. The input
--- value and the input timer of the state are kept elsewhere
+-- the pool matches a state of its list: the hash matches the state's key and text, and the bits are the same. The pool
+-- does not hold the state's input value and input timer
 pub record PoolConforms (pool : PoolParts) (s : PoolState) : Type 0 where
   pub hashed : Conforms pool.hash s.key s.text
   pub credited : pool.bits ≡ s.bits

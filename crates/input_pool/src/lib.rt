@@ -21,10 +21,10 @@
 //! # Proved
 //!
 //! - [`Pool::mix`], [`Pool::credit`] and [`Pool::extract`]: if the pool matched a state of the pool's list before the
-//!   call, it matches the state after the call's entry.
+//!   call, it then matches the state that the call leads to.
 //! - [`Pool::credit`]: the result is the threshold that the bits crossed, and [`Crossing::Ready`] if they crossed both
 //!   thresholds.
-//! - [`Pool::extract`]: the root is the one that the definitions give for that state and these hardware bytes.
+//! - [`Pool::extract`]: the result is the root that the definitions give for that state and these hardware bytes.
 //!
 //! # Tested only
 //!
@@ -34,8 +34,8 @@
 //! # Differs from the kernel
 //!
 //! - A credit only returns the threshold that it crossed. In the kernel it also makes the core early or ready.
-//! - An extraction gets 32 hardware bytes from its caller. The kernel asks for them word by word, and takes the cycle
-//!   counter for a refused word.
+//! - An extraction gets 32 hardware bytes from its caller. The kernel asks the hardware for them word by word. If the
+//!   hardware refuses a word, the kernel takes the cycle counter instead.
 #![tactic(auto)]
 
 mod pool;

@@ -1,4 +1,4 @@
--- A function that gives each feeder a value, with the value of one feeder changed.
+-- `changed` takes a function that gives each feeder a value, and replaces the value of one feeder.
 use Rattle.std.proofs.Common.{◌≡◌, ◌≢◌, ◌⊎◌, inl, inr, ⊎_elim, ℕ, ◌==◌, cond, eq-eqb, ne_eqb, refl, ap}
 use Rattle.std.proofs.lemmas.Bool.Decides.{eqb_tells}
 

@@ -1,4 +1,4 @@
--- The length of a list of samples is the sum, over all feeders, of the numbers of their samples in the list.
+-- The length of a list of samples is a sum over all feeders: each feeder adds the number of its samples in the list.
 use Rattle.std.proofs.Common.{◌≡◌, ◌≢◌, ⊎_elim, ℕ, zero, suc, ◌+◌, ◌*◌, ◌<◌, ◌≤◌, ◌==◌, cond, Bool, true, false, List, [], ◌∷◌, ◌++◌, length, sym, refl, ap, ◌∙◌, subst, eq-eqb, ne_eqb, lt_of_not-le, arith, length-append, suc-mul, mul-le-mul_right}
 use Rattle.std.proofs.lemmas.Bool.Decides.{eqb_tells}
 use Rattle.std.proofs.lemmas.List.{append-nil}
@@ -20,7 +20,7 @@ sum_more zero g h e = omega arith
 sum_more (suc n) g h e =
     (let a = sum_more n g h (λ f low. e f (omega arith)) in let b = e n (omega arith) in omega arith)
 
--- if each term of `g` is at most that of `h`, and the sums are equal, then the terms are equal
+-- if each term of `g` is at most the same term of `h`, and the sums are equal, then the terms are equal
 pub sum_tight : (n : ℕ) (g h : ℕ → ℕ) → ((f : ℕ) → f < n → g f ≤ h f) → sum_below n g ≡ sum_below n h
     → (f : ℕ) → f < n → g f ≡ h f
 sum_tight zero g h e s f low = absurd (omega arith)
@@ -86,8 +86,8 @@ none_after x xs f e = ⊎_elim
     (λ (t : (x.feeder == f ≡ false) × (x.feeder ≢ f)). sym (of_else x xs f t.1) ∙ e)
     (eqb_tells x.feeder f)
 
--- if all samples of a list are of feeders below `n`, the list's length is the sum of these feeders' numbers of samples
--- in the list
+-- let all samples of a list be of feeders below `n`. The list's length is a sum over these feeders: each feeder adds
+-- the number of its samples in the list
 pub counted : (n : ℕ) (xs : List Sample) → ((f : ℕ) → n ≤ f → of_feeder f xs ≡ [])
     → length xs ≡ sum_below n (λ f. length (of_feeder f xs))
 counted n [] none = sym (sum_none n)

@@ -1,4 +1,5 @@
--- A dump after each 1,024th interrupt of a CPU at one moment, and the bits of the pool after these dumps.
+-- If all interrupts of a CPU come at moment 0, the CPU makes a dump after each 1,024th. The lemmas give the bits of the
+-- pool after these dumps.
 use Rattle.std.proofs.Common.{◌≡◌, inl, inr, ℕ, ◌+◌, ◌*◌, ◌/◌, ◌%◌, ◌<◌, ◌≤◌, ◌^◌, List, [], ◌∷◌, ◌++◌, length, map, refl, sym, ap, ◌∙◌, arith, true, false, cond, nat_le, ◌&&◌, ◌||◌, length-append, append_assoc, lit<}
 use Rattle.std.specs.Prelude.{nat_lt, min, max}
 use Rattle.std.specs.List.{fold}
@@ -27,8 +28,8 @@ dumps_append : (xs ys : List CpuEntry) → dumps_in (xs ++ ys) ≡ dumps_in xs +
 dumps_append [] ys = omega arith
 dumps_append (x ∷ xs) ys = (let rest = dumps_append xs ys in omega arith)
 
--- `cpu` and `pool` are the lists of the CPU and of the pool after an interrupt of each of `samples`, at moment 0. There
--- were `q` dumps so far, and `r` samples since the last dump
+-- `cpu` and `pool` are the lists of the CPU and of the pool after one interrupt for each sample of `samples`, all at
+-- moment 0. There were `q` dumps so far, and `r` samples since the last dump
 pub record Dumped (samples : List Sample) (cpu : List CpuEntry) (pool : List PoolEntry) : Type 0 where
   pub q : ℕ
   pub r : ℕ

@@ -1,5 +1,5 @@
--- The entries that the steps of a call have in the lists of the CPU and of the pool. Each entry is at the place of its
--- step's mark, and these places follow one another.
+-- The steps of a call have entries in the lists of the CPU and of the pool. Each entry is at the place of its step's
+-- mark, and these places follow one another.
 use Rattle.std.proofs.Common.{◌≡◌, ℕ, suc, ◌+◌, List, [], ◌∷◌, ◌++◌, length, refl, sym, ap, ◌∙◌, subst, arith, Bool, true, false, cond, nat_eq, append_assoc, Some, None, Option}
 use Rattle.std.specs.Prelude.{slice_get}
 use Rattle.std.proofs.lemmas.Bool.{eqb-true, ne_eqb}
@@ -50,8 +50,8 @@ rest_there (at_base v) ds t = t
 rest_there (at_cpu v) ds t = t
 rest_there nothing_there ds t = absurd t
 
--- the pairs `xs` of a place and an entry have the places from `i` on, and the list `es` has their entries at these
--- places
+-- each element of `xs` is a pair of a place and an entry. The places are `i`, `i + 1` and so on, and the list `es` has
+-- each pair's entry at the pair's place
 abbrev pub Counts : {E : Type 0} → List E → ℕ → List (ℕ × E) → Type 0
 Counts es i [] = Unit {0}
 Counts es i (x ∷ xs) = (x.0 ≡ i) × (slice_get es i ≡ Some x.1) × Counts es (suc i) xs

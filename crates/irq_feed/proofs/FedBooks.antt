@@ -58,7 +58,8 @@ set = setting_of (first_setting 0)
 
 -- ---- The effects of the call that makes one interrupt
 
--- the steps after a credit are no visits of the CPU, and do not change the bits
+-- the effects `rest` after a credit are in the lists. None of them is a visit of a CPU, and they do not change the
+-- pool's bits
 record Crossed (rest : List Effect) : Type 0 where
   there : AllThere rest
   no_cpu : cpu_seen rest ≡ []

@@ -1,5 +1,5 @@
--- Lines of a transcript for the calls that made interrupts of samples. The proof that the samples of the table's book
--- are lawful uses these lines.
+-- Each call that made an interrupt of a sample gets a line of a transcript. The proof that the samples of the table's
+-- book are lawful uses these lines.
 use Rattle.std.proofs.Common.{◌≡◌, ℕ, suc, ◌+◌, ◌≤◌, inl, inr, List, [], ◌∷◌, ◌++◌, sym, ap, ◌∙◌, subst, refl, arith, Some}
 use Rattle.std.specs.Prelude.{slice_get}
 use Rattle.std.specs.List.{AllByRecursion, flat_map}

@@ -1,5 +1,5 @@
--- The path of a call of `feed`: the facts `CanStart`, `CanTakeBack`, `HasDrained` and `Front` lead from the first
--- feeder's start to the last mixed sample, and to `AllMixed`.
+-- The course of a call of `feed`. From the first feeder's start to the last mixed sample, the facts `CanStart`,
+-- `CanTakeBack`, `HasDrained` and `Front` hold in turn. `AllMixed` follows from them.
 use Rattle.std.proofs.Common.{◌≡◌, ◌≢◌, ◌⊎◌, inl, inr, ⊎_elim, ℕ, zero, suc, ◌+◌, ◌*◌, ◌<◌, ◌≤◌, ◌==◌, cond, Bool, true, false, not, ◌&&◌, true≢false, List, [], ◌∷◌, ◌++◌, length, set, sym, refl, ap, ◌∙◌, subst, arith, length-append, append_assoc, add-one, suc-mul}
 use Rattle.std.specs.Prelude.{nat_lt, slice_index_or, vec_capacity, vec_items}
 use Rattle.std.specs.List.{AllByRecursion}
@@ -100,8 +100,8 @@ module _ (feeds : Numbers) (d : ℕ → Bool) (taken items : List Sample) (pushe
       by near true e = none_of f (ends f near e) ∙ sym (done_late feeds d 0 f near e (omega arith))
       by near false e = whole f near e ∙ sym (done_through feeds d 0 f near e)
 
--- if `xs` has no sample of a direct feeder (one whose samples the worker itself mixes), each sample of `xs` is of a
--- feeder that is not direct
+-- if `xs` has no sample of a direct feeder, then the feeder of each sample of `xs` is not direct. The worker itself
+-- mixes a direct feeder's samples
 came_through : (d : ℕ → Bool) (xs : List Sample) → ((f : ℕ) → d f ≡ true → of_feeder f xs ≡ [])
     → AllByRecursion (λ (x : Sample). d x.feeder ≡ false) xs
 came_through d [] none = tt
@@ -304,7 +304,7 @@ firsts_direct d feeds n zero is = tt
 firsts_direct d feeds n (suc k) is =
     all_after d (first_samples feeds n k) (sample feeds n k ∷ []) (firsts_direct d feeds n k is) (is, tt)
 
--- when feeder `n` is done, too, the samples of each other feeder that were mixed so far (`done_so_far`) are the same
+-- when the worker is done with feeder `n`, too, `done_so_far` is unchanged for each other feeder
 done_else : (feeds : Numbers) (d : ℕ → Bool) (n f : ℕ) → f ≢ n → done_so_far feeds d (n + 1) f ≡ done_so_far feeds d n f
 done_else feeds d n f differ = ap (λ b. cond (nat_lt f feeds.feeders) (cond (d f && not b) [] (first_samples feeds f feeds.each)) [])
     (⊎_elim (λ low. lt-ltb f (n + 1) (omega arith) ∙ sym (lt-ltb f n low))
@@ -333,7 +333,7 @@ sum_step n (suc k) g low = ⊎_elim
     let a = sum_step n k g (let differ = t.1 in omega arith) in omega arith)
     (eqb_tells n k)
 
--- the facts of `Front`, with the list of direct feeders as a variable
+-- the facts of `Front` for any function `d` that gives the direct feeders
 record Parts (feeds : Numbers) (n : ℕ) (through directly : List Sample) (m : Mixed) (d : ℕ → Bool) : Type 0 where
   came : AllByRecursion (λ (x : Sample). d x.feeder ≡ false) through
   following : AllByRecursion (λ (x : Sample). d x.feeder ≡ true) directly
@@ -343,7 +343,7 @@ record Parts (feeds : Numbers) (n : ℕ) (through directly : List Sample) (m : M
 
 module _ (feeds : Numbers) (n : ℕ) (through : List Sample) (m : Mixed) (near : n < feeds.feeders)
     (h : Front feeds n through m) where
-  -- if feeder `n` is direct, the list of mixed samples has room for its samples
+  -- if feeder `n` is direct, the list of mixed samples has room for that feeder's samples
   pub has_room : is_direct m n ≡ true → length (mixed_in m) + feeds.each ≤ feeds.feeders * feeds.each
   has_room direct =
       let d : ℕ → Bool = is_direct m in

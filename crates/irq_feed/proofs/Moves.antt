@@ -20,7 +20,7 @@ use Rattle.irq_feed.proofs.Changes.{same_or_not, changed, changed_here, changed_
 
 -- ---- The list of the views of all passes
 
--- if `a` is added at the end of the list `l`, each element is one of `l`, or is `a`
+-- if `a` is added at the end of the list `l`, each element of the new list is an element of `l` or is `a`
 at_more : (l : List Known) (a u : Known) (j : ℕ) → get_elem? (l ++ a ∷ []) j ≡ some u
     → (get_elem? l j ≡ some u) ⊎ ((j ≡ length l) × (a ≡ u))
 at_more [] a u zero e = inr (refl, some-injective a u e)
@@ -79,8 +79,8 @@ ordered_more feeds pushed xs x number before is f =
 
 -- ---- The feeders whose passes the worker took in (`Ended`)
 
--- if the pass and the number of pushed samples are unchanged for each feeder without a pass, `HasEnded` still holds for
--- each feeder that ended
+-- if each feeder without a pass still has none, and its number of pushed samples is unchanged, `HasEnded` still holds
+-- for each feeder that ended
 ends_kept : (next next' : ℕ) (seat seat' : ℕ → Option ℕ) (pushed pushed' : ℕ → ℕ) (es : List Ended) → next ≤ next'
     → ((f : ℕ) → f < next → seat f ≡ None → (seat' f ≡ None) × (pushed' f ≡ pushed f))
     → AllByRecursion (HasEnded next seat pushed) es → AllByRecursion (HasEnded next' seat' pushed') es
@@ -219,7 +219,7 @@ pops pass (Worker d) may x items views h at =
 
 -- ---- The worker splits off a pass for the next feeder
 
--- when a feeder number that had no pass gets one, the knowledge of each feeder's pass stays correct
+-- when a feeder number that had no pass gets a pass, the knowledge of each pass but the worker's stays correct
 seat_kept : (feeds : Numbers) (worker : ℕ) (seat : ℕ → Option ℕ) (pushed : ℕ → ℕ) (taken : List Sample)
     (number : ℕ) (o : Option ℕ) (k : ℕ) → seat number ≡ None → k ≢ worker → (u : Known)
     → Fits feeds worker seat pushed taken k u → Fits feeds worker (changed seat number o) pushed taken k u

@@ -43,7 +43,7 @@ path_in event (x ∷ xs) v w (u, one, more) =
 
 -- ---- A table of three lanes, after all its visits
 
--- if the stamps of marks climb, the marks are sorted by stamp, and so are those of one lane
+-- if the stamps of marks climb, the marks are sorted by stamp, and so are the marks of each lane
 all_above : (low high : ℕ) (marks : List MarkBy) → Climbs low (stamps_of marks) high →
     AllByRecursion (λ by. low ≤ by.mark.stamp) marks
 all_above low high [] climbs = tt
@@ -74,8 +74,8 @@ sorted lane low high (by ∷ marks) climbs =
     )
     go false rest = rest
 
--- if the view `w` knows the visit of each mark, each mark of the lane `lane` has the place and the stamp of a visit in
--- that lane's list
+-- let the visit of each mark be known in the view `w`. Then each mark of the lane `lane` has the place and the stamp of
+-- a visit in that lane's list
 in_lane : (w : View) (lane : ℕ) (marks : List MarkBy) → AllByRecursion (IsKnown w) marks →
     AllByRecursion (MarksPlace (known_of w lane)) (lane_of lane marks)
 in_lane w lane [] all = tt

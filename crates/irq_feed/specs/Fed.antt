@@ -42,15 +42,16 @@ abbrev pub sum_below : ℕ → (ℕ → ℕ) → ℕ
 sum_below zero g = 0
 sum_below (suc n) g = sum_below n g + g n
 
--- how many of its `each` samples a feeder sends through the queue. `by_worker`: how many of them the worker mixes
--- itself
+-- how many of a feeder's `each` samples come through the queue: none if the feeder is direct. `by_worker`: how many of
+-- them the worker mixes itself
 abbrev pub through_queue : ℕ → (ℕ → Bool) → ℕ → ℕ
 through_queue each direct feeder = if direct feeder then 0 else each
 
 abbrev pub by_worker : ℕ → (ℕ → Bool) → ℕ → ℕ
 by_worker each direct feeder = if direct feeder then each else 0
 
--- the samples of a feeder that are mixed once the direct feeders below `number` are done
+-- `feeder`'s mixed samples, once the worker has mixed all samples from the queue and all samples of the direct feeders
+-- below `number`
 abbrev pub done_so_far : Numbers → (ℕ → Bool) → ℕ → ℕ → List Sample
 done_so_far feeds direct number feeder =
     if nat_lt feeder feeds.feeders
@@ -71,11 +72,11 @@ abbrev pub IsAmong : Ended → List Ended → Type 0
 IsAmong e [] = ⊥
 IsAmong e (x ∷ xs) = (x ≡ e) ⊎ IsAmong e xs
 
--- the direct feeders pushed no sample, and the worker took in their passes
+-- each direct feeder below `number` pushed no sample, and the worker took in that feeder's pass
 abbrev pub DirectEnded : (ℕ → Bool) → ℕ → List Ended → Type 0
 DirectEnded direct number es = (feeder : ℕ) → feeder < number → direct feeder ≡ true → IsAmong (ended feeder 0) es
 
--- the feeders below `number` were started, and `owed` samples will come through the queue; the worker took no sample
+-- the feeders below `number` were started, and `owed` samples will come through the queue. The worker took no sample
 -- yet, and the next feeder gets the number `next`
 pub record HasBegun (queue : FeedQueue) (feeds : Numbers) (number next owed : ℕ) (worker : FeedPass) (m : Mixed)
     : Type 0 where
@@ -97,7 +98,7 @@ abbrev pub CanTakeBack : FeedQueue → Numbers → ℕ → ℕ → FeedPass → 
 CanTakeBack queue feeds number owed worker m =
     (number < feeds.feeders) × HasBegun queue feeds number (number + 1) owed worker m
 
--- `through` has the samples that came from the queue; after them the worker mixed the samples of the direct feeders
+-- `through` lists the samples that came from the queue. After them the worker mixed the samples of the direct feeders
 -- below `number`
 pub record Front (feeds : Numbers) (number : ℕ) (through : List Sample) (m : Mixed) : Type 0 where
   pub few : (feeds.feeders ≤ 16) × (feeds.each ≤ 10000)

@@ -24,20 +24,21 @@ use Rattle.irq_feed.specs.declared.samples.Sample.{Sample}
 abbrev pub in_event : Setting → ℕ → Setting
 in_event set event = record set { event = event }
 
--- from the view `v` to `w` the pass made one interrupt of the sample `x`, with the steps `steps`
+-- going from the view `v` to the view `w`, the pass made one interrupt of the sample `x`, in the steps `steps`
 pub record Interrupted (set : Setting) (event : ℕ) (x : Sample) (v w : View) : Type 0 where
   pub steps : List Step
   pub did : MakesIn (Sampled (IsOutcomeOf (setting_of set) (IrqEvent x.v1 x.v2) Done no_data)) (in_event set event)
       (knowing v []) (knowing w steps)
 
--- from `v` to `w` the pass made one interrupt for each sample, in order, in events numbered from `event` on
+-- going from `v` to `w`, the pass made one interrupt for each sample, in order. The events are numbered from `event` on
 abbrev pub Mixes : Setting → ℕ → List Sample → View → View → Type 0
 Mixes set event [] v w = w ≡ v
 Mixes set event (x ∷ xs) v w = (u : View) × Interrupted set event x v u × Mixes set (suc event) xs u w
 
 -- The lanes after the interrupts
 
--- `irq_at`: the CPU and the entry, if the entry is an interrupt. `irqs_of`: all interrupts among a call's effects
+-- `irq_at`: the pair of CPU and entry if the entry is an interrupt, and no pair otherwise. `irqs_of`: these pairs for
+-- all interrupts among a call's effects
 abbrev pub irq_at : ℕ → CpuEntry → List (ℕ × CpuEntry)
 irq_at cpu (Read look refill taken) = []
 irq_at cpu (Int look refill width filled) = []
@@ -54,19 +55,19 @@ irqs_of (at_base visit ∷ effects) = irqs_of effects
 irqs_of (at_cpu visit ∷ effects) = irq_at visit.cpu visit.entry ++ irqs_of effects
 irqs_of (nothing_there ∷ effects) = irqs_of effects
 
--- the places of the visits of lane `lane` among some steps
+-- the places of the visits that some steps made in lane `lane`
 abbrev pub places_of : ℕ → List Step → List ℕ
 places_of lane [] = []
 places_of lane (Look g ∷ steps) = places_of lane steps
 places_of lane (Marked mark ∷ steps) =
     if index_of mark.lane == lane then mark.place ∷ places_of lane steps else places_of lane steps
 
--- the CPU and the entry of a sample's interrupt, on the CPU and at the moment of the setting
+-- the CPU and the entry of the interrupt of the sample `x`. The setting gives the CPU and the moment
 abbrev pub irq_of : Setting → Sample → ℕ × CpuEntry
 irq_of set x = (set.cpu, Irq x.v1 x.v2 set.now)
 
--- from the view `v` to `w` the pass made exactly the steps `steps`. In all lists of visits that continue those of `w`,
--- the interrupts among the steps are those of the samples `xs`, in order
+-- going from the view `v` to the view `w`, the pass made exactly the steps `steps`. In all lists of visits that
+-- continue the lists of `w`, the interrupts among the steps are the interrupts of the samples `xs`, in order
 pub record Put (set : Setting) (xs : List Sample) (v w : View) : Type 0 where
   pub steps : List Step
   pub all : (lane : ℕ) → lane < length v.lanes → (at lane w).places ≡ (at lane v).places ++ places_of lane steps

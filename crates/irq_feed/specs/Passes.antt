@@ -27,7 +27,7 @@ next_of (Worker d) = d.next
 next_of (Feeder p) = p.number
 next_of Nobody = 0
 
--- the samples that a worker's pass took out of the queue, in order
+-- the samples that the worker with the pass `w` took out of the queue, in order
 abbrev pub took : FeedPass → List Sample
 took w = taken_of (known w)
 

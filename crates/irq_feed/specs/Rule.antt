@@ -1,5 +1,5 @@
--- The rule of the queue: for each feeder, the samples that the worker took, followed by those in the queue, are the
--- feeder's first samples.
+-- The rule of the queue: for each feeder, the samples that the worker took, followed by the samples in the queue, are
+-- the feeder's first samples.
 use Rattle.std.specs.Prelude.{◌≡◌, ℕ, ◌+◌, ◌<◌, ◌≤◌, ⊤, List, [], ◌∷◌, ◌++◌, Option, Some, None}
 use Rattle.std.specs.List.{AllByRecursion}
 use mathlib.Core.Option.{some}
@@ -30,8 +30,8 @@ ended feeder pushed = record { feeder = feeder; pushed = pushed }
 abbrev pub HasEnded : ℕ → (ℕ → Option ℕ) → (ℕ → ℕ) → Ended → Type 0
 HasEnded next seat pushed e = (e.feeder < next) × (seat e.feeder ≡ None) × (pushed e.feeder ≡ e.pushed)
 
--- the knowledge `d` of the worker is right: the feeds, the samples that it took, and the feeders that ended. No feeder
--- has the next number or a higher one
+-- the worker's knowledge `d` is right about the feeds, the samples that the worker took, and the feeders that ended. No
+-- feeder has the number `d.next` or a higher number
 pub record IsWorkerKnowledge (feeds : Numbers) (seat : ℕ → Option ℕ) (pushed : ℕ → ℕ) (taken : List Sample) (d : WorkerKnowledge)
     : Type 0 where
   pub feeds_are : d.feeds ≡ feeds
@@ -70,7 +70,7 @@ Pushed (Worker d) x w = ⊤
 Pushed (Feeder p) x w = w ≡ Feeder (post p.feeds p.number (p.pushed + 1))
 Pushed Nobody x w = ⊤
 
--- after a pop the worker knows that it took the sample `x`, too
+-- after a pop the worker knows that it also took the sample `x`
 abbrev pub Popped : Known → Sample → Known → Type 0
 Popped (Worker d) x w = w ≡ Worker (desk d.feeds (d.taken ++ x ∷ []) d.next d.ended)
 Popped (Feeder p) x w = ⊤
@@ -102,7 +102,7 @@ with_taken (Worker d) xs = Worker (desk d.feeds xs d.next d.ended)
 with_taken (Feeder p) xs = Feeder p
 with_taken Nobody xs = Nobody
 
--- the view is the worker's. `IsFeeding`: the view is a feeder's
+-- the knowledge is the worker's. `IsFeeding`: the knowledge is a feeder's
 abbrev pub IsWorker : Known → Type 0
 IsWorker (Worker d) = ⊤
 IsWorker (Feeder p) = ⊥
@@ -119,11 +119,11 @@ MayPush (Worker d) x = ⊥
 MayPush (Feeder p) x = (p.pushed < p.feeds.each) × (x ≡ sample p.feeds p.number p.pushed)
 MayPush Nobody x = ⊥
 
--- the worker's view before it knows any feeds
+-- the worker's knowledge before the worker learns the feeds
 abbrev pub no_feeds : Known
 no_feeds = Worker (desk (numbers 0 0 0) [] 0 [])
 
--- the worker's view of a new queue for the feeds `feeds`
+-- the worker's knowledge while the queue for the feeds `feeds` is new
 abbrev pub begun : Numbers → Known
 begun feeds = Worker (desk feeds [] 0 [])
 

@@ -19,7 +19,8 @@ use Rattle.irq_feed.specs.declared.samples.Sample.{Sample}
 use Rattle.irq_feed.specs.declared.table_feed.FeedSums.{FeedSums}
 use Rattle.irq_feed.specs.Samples.{numbers, first_samples, of_feeder}
 
--- for each sample, the effects of the call's steps are those of one interrupt with the sample's words
+-- there is one call for each sample. The effects of the call's steps are the effects of one interrupt with the sample's
+-- words
 abbrev pub AreCalls : Lists → List Sample → List (List Step) → Type 0
 AreCalls lists [] [] = Unit {0}
 AreCalls lists [] (steps ∷ calls) = ⊥
@@ -28,7 +29,7 @@ AreCalls lists (x ∷ xs) (steps ∷ calls) =
     IsOutcomeOf (setting_of (first_setting 0)) (IrqEvent x.v1 x.v2) Done no_data (effects_of lists steps)
     × AreCalls lists xs calls
 
--- the marks of the visits of the calls in a list; the calls are the events `event`, `event + 1` and so on
+-- the marks of all visits that the calls made. The calls are the events `event`, `event + 1` and so on
 abbrev pub marks_of : ℕ → List (List Step) → List MarkBy
 marks_of event [] = []
 marks_of event (steps ∷ calls) = marks_from 0 event 0 steps ++ marks_of (suc event) calls
@@ -62,7 +63,7 @@ abbrev pub irq_entry : Sample → CpuEntry
 irq_entry x = Irq x.v1 x.v2 0
 
 -- the book of a table with one CPU: the book and its samples are lawful, and the book is disjoint. The book's visits
--- are exactly those of a sequence of calls, one call for each sample
+-- are exactly the visits of a sequence of calls, one call for each sample
 pub record IsFedBook (samples : List Sample) (book : Book) : Type 0 where
   pub cpus : length book.cpus ≡ 1
   pub lawful : LawfulLanes (lists_of book)
@@ -74,8 +75,8 @@ pub record IsFedBook (samples : List Sample) (book : Book) : Type 0 where
   pub last : ℕ
   pub in_order : Climbs 0 (map (λ by. by.mark.stamp) (marks_of 0 calls)) last
 
--- all samples of the feeders were mixed on a new table, each once, and those of each feeder in order. The sums are
--- those of the table's book, and the order of different feeders' samples does not change them
+-- all samples of the feeders were mixed on a new table, each sample once, and the samples of each feeder in order. The
+-- sums match the table's book. The order of different feeders' samples does not change the sums
 pub record IsFed (start feeders each : ℕ) (sums : FeedSums) : Type 0 where
   pub samples : List Sample
   pub each_of : (feeder : ℕ) → feeder < feeders

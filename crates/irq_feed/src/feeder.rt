@@ -101,7 +101,7 @@ impl Feeders {
     }
 }
 
-/// A feeder, with the contract of its thread: the thread returns the feeder's pass, and the pass has pushed as many
+/// A feeder, with the contract of its thread: the thread returns the feeder's pass, and the feeder pushed as many
 /// samples as the thread reports.
 #[derive(Drop)]
 pub(crate) struct Feeder<'a> {

@@ -6,7 +6,7 @@ use io_edges::Gate;
 use lane_table::Lanes;
 use rng_core::Setting;
 
-/// The input of a call: the table of the CPU; the setting that the caller has for all its interrupts; the feeders'
+/// The input of a call: the table of lanes; the caller's setting, which holds for all its interrupts; the feeders'
 /// samples; the queue between the feeders and the caller; and the gate, which is called before each sample.
 #[derive(Drop)]
 pub struct FeedIntake<'a, G: Gate> {

@@ -1,11 +1,11 @@
-//! Interrupt samples of several feeders, handed to one worker through a queue. The worker makes one interrupt of each
-//! sample (`rng_core::irq`, `add_interrupt_randomness` of drivers/char/random.c).
+//! Interrupt samples of several feeders, handed to one worker through a queue. The worker turns each sample into one
+//! interrupt (`rng_core::irq`, `add_interrupt_randomness` of drivers/char/random.c).
 //!
 //! [`feed`] starts a thread for each feeder. A feeder pushes its samples into a bounded queue, in order. The caller is
 //! the worker, and the only thread that visits a CPU. If a feeder gets no thread, the worker mixes that feeder's
 //! samples itself, after all others. The crate uses only the contracts of `rng_core` and of a queue of
-//! `crossbeam_queue`. The queue's rule is: for each feeder, the samples that the worker took and those in the queue are
-//! the feeder's first samples.
+//! `crossbeam_queue`. The queue's rule: for each feeder, the samples that the worker took, followed by the samples in
+//! the queue, are the feeder's first samples, in order.
 //!
 //! # Example
 //!
@@ -28,9 +28,9 @@
 //!
 //! For every interleaving of the threads:
 //!
-//! - [`feed`]: a call that succeeds has mixed each sample of each feeder once, and the samples of one feeder in their
-//!   order. If memory runs out, the call has mixed none.
-//! - [`feed_on_new_table`]: the sums that it returns are those of the table's visits.
+//! - [`feed`]: a call that succeeds has mixed each sample of each feeder once. It mixed the samples of one feeder in
+//!   their order. If memory runs out, the call has mixed none.
+//! - [`feed_on_new_table`]: the returned sums are the sums over the table's visits.
 //!
 //! Not promised: that a call returns, that two feeders ever run at once, or any order between the samples of different
 //! feeders.

@@ -16,7 +16,7 @@ use std::marker::{Brand, PhantomData};
 /// The most samples that the queue can hold.
 pub const ROOM: usize = 64;
 
-/// The rule: for each feeder, the samples that the worker took, followed by those in the queue, are the feeder's
+/// The rule: for each feeder, the samples that the worker took, followed by the samples in the queue, are the feeder's
 /// first samples, in order.
 pub struct Ordered;
 
@@ -75,7 +75,8 @@ impl Join<Known> for Next {
     ghost spent = { Nobody };
 }
 
-/// A type parameter of `Begin`. The type determines the feeds of a queue, and only `tell_feeds` has to choose one.
+/// The bound of the type parameter of `Begin`. Such a type determines the feeds of a queue. Only `tell_feeds` has to
+/// choose such a type.
 pub trait Naming {
     ghost use Rattle.irq_feed.specs.Feeds.{Numbers};
 
@@ -104,13 +105,13 @@ impl<F: Naming> Split<Known> for Begin<F> {
 
 type SampleLine = RuledArrayQueue<Sample, Known, Ordered>;
 
-/// The queue, of 64 samples, which all threads share.
+/// The queue between the feeders and the worker. It has room for 64 samples, and all threads share it.
 #[derive(Drop)]
 pub struct FeedQueue {
     line: SampleLine,
 }
 
-/// The token of the worker or of a feeder. The worker's pass knows which samples the worker took from the queue, and
+/// The token of the worker or of a feeder. The worker's pass records which samples the worker took from the queue, and
 /// which number the next feeder gets.
 #[derive(Drop)]
 pub struct FeedPass {
@@ -126,7 +127,8 @@ fn tell_feeds<F: Naming>(queue: &FeedQueue, worker: &mut FeedPass, _feeds: &Feed
 }
 
 impl FeedQueue {
-    /// Makes an empty queue for `feeds`, and the worker's pass, which has taken no sample and gives out number 0 next.
+    /// Makes an empty queue for `feeds`, and the worker's pass. The worker has taken no sample, and the next feeder
+    /// gets number 0.
     ///
     /// # Errors
     ///

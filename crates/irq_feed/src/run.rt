@@ -22,17 +22,18 @@ use std::sync::atomic::{AtomicU32, Ordering};
 use std::thread;
 use std::thread::{Scope, Threads};
 
-/// Hands the samples of all feeders to this caller, which makes an interrupt of each sample
+/// Hands the samples of all feeders to the caller, which makes an interrupt of each sample
 /// (`add_interrupt_randomness`).
 ///
 /// Each feeder has its own thread. The feeder calls the gate before each sample, pushes the sample, and waits while the
-/// queue is full. The caller takes the samples out and makes one `irq` of each sample, at the moment and on the CPU of
-/// the setting. The events are numbered from 0. If a feeder got no thread, the caller mixes that feeder's samples
-/// itself, after all others, and calls the gate before each. A test checks that the caller does so only for a feeder
-/// without a thread. Samples of one feeder keep their order; those of different feeders may come in any order.
+/// queue is full. The caller takes the samples out and makes one call of `irq` for each, at the setting's moment and on
+/// its CPU. The events are numbered from 0. If a feeder got no thread, the caller mixes that feeder's samples itself,
+/// after all others, and calls the gate before each sample. A test checks that the caller does so only for a feeder
+/// without a thread. Samples of one feeder keep their order. Samples of different feeders may come in any order.
 ///
 /// After the first feeder has started, only thread creation allocates. The call waits for the lanes and for its
-/// feeders. It always returns the worker's pass. After success that pass knows all samples that it took from the queue.
+/// feeders. It always returns the worker's pass. After success, that pass records all samples that the worker took from
+/// the queue.
 ///
 /// # Errors
 ///
@@ -64,7 +65,7 @@ pub fn feed<'a, R: Threads + Wait + Sync, G: Gate>(
 ///
 /// # Errors
 ///
-/// The same as those of [`feed`].
+/// The same errors as [`feed`].
 pub fn feed_by<'a, R: Threads + Wait + Sync, G: Gate>(
     rt: &R,
     alloc: Global,
@@ -200,7 +201,8 @@ fn start_rest<'s, E, R: Threads + Wait + Sync, G: Gate>(
     }
 }
 
-// Takes in the pass of a feeder that got no thread. If that feeder pushed nothing, the worker has to mix its samples.
+// Takes in the pass of a feeder that got no thread. If that feeder pushed nothing, the worker has to mix the feeder's
+// samples itself.
 fn take_back<G: Gate>(
     intake: &FeedIntake<G>,
     hand: &mut WorkerState,
@@ -222,7 +224,7 @@ fn take_back<G: Gate>(
     }
 }
 
-// Mixes the samples of all feeders that the worker has to serve itself, feeder by feeder.
+// Mixes the samples of all direct feeders, feeder by feeder. The worker mixes a direct feeder's samples itself.
 fn mix_rest<R: Wait, G: Gate>(rt: &R, intake: &FeedIntake<G>, pass: &mut Pass, mixed: &mut Mixed)
     requires mix { CanMix intake.now.lanes.now intake.now.set pass.old }
     requires front { Front intake.now.feeds.now 0 (mixed_in mixed.old) mixed.old }

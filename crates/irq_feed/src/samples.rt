@@ -36,8 +36,8 @@ impl Model for Feeds {
 }
 
 impl Feeds {
-    /// Gives `each` samples to each of `feeders` feeders. Sample `i` of feeder `f` has the words `start` + `i` and `f`;
-    /// both numbers count from 0.
+    /// Gives `each` samples to each of `feeders` feeders. Sample `i` of feeder `f` has the words `start` + `i` and `f`.
+    /// `i` and `f` count from 0.
     ///
     /// # Errors
     ///

@@ -19,7 +19,7 @@ const DUMP_AT: u32 = 1024;
 /// The credit of a dump after `DUMP_AT` samples, in bits.
 const DUMP_BITS: u32 = 16;
 
-/// The most bits of the pool.
+/// The most bits that the pool can have.
 const MOST_BITS: u32 = 256;
 
 /// The sums that `feed_on_new_table` returns.
@@ -29,7 +29,7 @@ pub struct FeedSums {
     pub samples: u32,
     /// The number of the CPU's dumps.
     pub dumps: u32,
-    /// The bits credited to the pool after all dumps.
+    /// The pool's credited bits, once all dumps are made.
     pub bits: u32,
 }
 
@@ -47,9 +47,9 @@ fn sums(samples: u32) -> FeedSums
     }
 }
 
-/// Makes a table with one CPU, and feeds it as [`feed`] does, by caller 0 at moment 0. There are `feeders` feeders,
-/// with `each` samples for each. Sample `i` of feeder `f` has the words `start` + `i` and `f`. The function computes
-/// the sums from the number of samples. They are proved to be the sums over the table's visits.
+/// Makes a table with one CPU, and feeds it as [`feed`] does, by caller 0 at moment 0. There are `feeders` feeders with
+/// `each` samples per feeder. Sample `i` of feeder `f` has the words `start` + `i` and `f`. The function computes the
+/// sums from the number of samples. They are proved to be the sums over the table's visits.
 ///
 /// # Errors
 ///

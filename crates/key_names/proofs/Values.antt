@@ -1,5 +1,5 @@
 -- In a lawful book, each held key and batch has the bytes of its name. In a lawful transcript, the printed bytes are
--- those of named spans.
+-- the bytes of named spans.
 pub mod Named
 pub mod StateNamed
 pub mod HeldBytes

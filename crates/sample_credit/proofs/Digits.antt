@@ -16,7 +16,8 @@ binary_digits-between (suc m) n below above =
     let half = binary_digits-between m (n / 2) (omega (arith, power)) (omega (arith, power)) in
     omega (arith, length-digits_of_step 2 n (omega arith) some, half)
 
--- if n is below 2^k, then n has k binary digits minus the leading zeros that n has when it is written with k digits
+-- if n is below 2^k, write n with k binary digits. Then k minus the number of leading zeros is the number of binary
+-- digits of n
 pub binary_digits-leading : (k n : ℕ) → n < 2 ^ k → k - count_leading_zeros k n ≡ binary_digits n
 binary_digits-leading k n fits =
     let found = leading_length k n fits in

@@ -106,7 +106,8 @@ impl Model for FastPool {
 }
 
 impl FastPool {
-    /// The words that SipHash starts from under a zero key, no interrupts, and 0 as the moment of the last dump.
+    /// Makes a fast pool with the words that SipHash starts from under a zero key. The count and the moment of the last
+    /// dump are 0.
     pub fn start() -> FastPool
         ensures { result ≡ fast_start }
     {
@@ -141,9 +142,9 @@ impl FastPool {
         due
     }
 
-    /// Returns the first two words, low byte first, for the input pool. Their credit is one bit for each 64 interrupts,
-    /// but at least 1 bit and at most 128 bits (`mix_interrupt_randomness`). The count goes back to 0, and `now`
-    /// becomes the moment of the last dump. The words do not change.
+    /// Returns the first two words, low byte first, for the input pool. Their credit is one bit for each 64 interrupts
+    /// of the count modulo 2^16, but at least 1 bit and at most 128 bits (`mix_interrupt_randomness`). The count goes
+    /// back to 0, and `now` becomes the moment of the last dump. The words do not change.
     pub fn dump(&mut self, now: u64) -> Dump
         ensures bytes { result.bytes ≡ dump_bytes self.old }
         ensures bits { result.bits ≡ dump_bits self.old }

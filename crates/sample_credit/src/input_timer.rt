@@ -10,8 +10,8 @@ use std::marker::Model;
 const MAX_BITS: u32 = 11;
 
 /// The value of the last input event (`last_value`), and the timer of input events (the kernel's `struct
-/// timer_rand_state`): the last moment in milliseconds, the last difference of two moments, and the last difference of
-/// two such differences.
+/// timer_rand_state`). The timer holds the last moment in milliseconds, the last difference of two moments, and the
+/// last difference of two such differences.
 ///
 /// In contracts these are the value and the timer of `key_names`.
 #[derive(Drop)]
@@ -60,9 +60,9 @@ impl InputTimer {
     }
 
     /// Returns the bits, 0 to 11, that an event at the moment `now` credits, and stores the moment and the differences
-    /// (`add_timer_randomness`). The timer takes half the least of the first, second and third difference of moments,
-    /// and cuts it to 32 bits. The bits are the number of binary digits of the result (the kernel's `fls`), at most 11.
-    /// `now` is in milliseconds and below 2^40. It may be earlier than the last moment.
+    /// (`add_timer_randomness`). The timer takes the least absolute value of the first, second and third difference of
+    /// moments, halves it, and cuts it to 32 bits. The bits are the number of binary digits of the result (the kernel's
+    /// `fls`), at most 11. `now` is in milliseconds and below 2^40. It may be earlier than the last moment.
     pub fn bits(&mut self, now: u64) -> u32
         requires { now < 2 ^ 40 }
         ensures bits { result ≡ timer_bits self.old.timer now }

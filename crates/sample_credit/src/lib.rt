@@ -23,18 +23,19 @@
 //!
 //! # Proved
 //!
-//! - [`FastPool::mix`]: the fast pool is the one that `key_names` defines after the interrupt, and the result is
-//!   whether this interrupt makes a dump due.
-//! - [`FastPool::dump`]: the bytes and the bits of the dump are the defined ones.
-//! - [`InputTimer::bits`]: the bits are those of the defined timer at this moment. [`InputTimer::fresh`] returns
-//!   whether the value differs from the last one.
-//! - [`input_sample`]: the bytes that an input event mixes.
+//! - [`FastPool::mix`]: after the call the fast pool is as `key_names` defines it, and the result is whether this
+//!   interrupt makes a dump due.
+//! - [`FastPool::dump`]: the dump has the bytes and the bits that `key_names` defines.
+//! - [`InputTimer::bits`]: the bits are what `key_names` defines for the timer at this moment. [`InputTimer::fresh`]
+//!   returns whether the value differs from the last one.
+//! - [`input_sample`]: the result is the bytes that an input event mixes in.
 //!
 //! The credit is the kernel's guess. No clause says how much entropy a sample has.
 //!
 //! # Tested only
 //!
-//! Nothing beyond what is proved. `sample_credit_tests` of `test_core` compares words with those of another SipHash.
+//! Nothing beyond what is proved. `sample_credit_tests` of `test_core` compares words with the words of another
+//! SipHash.
 //!
 //! # Differs from the kernel
 //!

@@ -1,5 +1,5 @@
--- A caller's order is the steps of its ancestors (its start) and then its own steps. Whether a look is allowed depends
--- on the earlier steps only through the greatest generation seen in them.
+-- A caller's order begins with the steps of its ancestors (its start), and its own steps follow. To check a look, the
+-- greatest generation seen in the earlier steps suffices.
 use Rattle.std.proofs.Common.{◌≡◌, ◌⊎◌, inl, inr, ℕ, zero, suc, ◌<◌, List, [], ◌∷◌, ◌++◌, length, refl, sym, subst, ap, ◌∙◌, arith, length-append}
 use Rattle.std.specs.List.{fold}
 use Rattle.std.proofs.lemmas.List.Sums.{fold-append}

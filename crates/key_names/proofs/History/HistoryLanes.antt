@@ -108,7 +108,7 @@ sorted_stamps (h ∷ next ∷ hs) sorted =
         go true less = cc
         go false less = ltb-false a.stamp b.stamp less
 
--- whether the visit `h` is one of `lane`
+-- whether the visit `h` is in `lane`
 abbrev in_lane : LaneId → Happening → Bool
 in_lane lane h = is_same_lane h.lane lane
 
@@ -120,7 +120,7 @@ filter_lane lane other false is i [] = refl
 filter_lane lane other true is i (v ∷ visits) = rw (is, filter_lane lane other true is (suc i) visits) refl
 filter_lane lane other false is i (v ∷ visits) = rw is (filter_lane lane other false is (suc i) visits)
 
--- if `lane` is none of the CPUs from c on, no visit of these CPUs is in `lane`
+-- if `lane` is not the lane of a CPU from `c` on, no visit of these CPUs is in `lane`
 filter_others : (lane : LaneId) (c : ℕ) (cpus : List (List (Visit CpuEntry))) →
     ((d : ℕ) → c ≤ d → is_same_lane (CpuLane d) lane ≡ false) → filter (in_lane lane) (visits_of_cpus c cpus) ≡ []
 filter_others lane c [] other = refl

@@ -1,4 +1,4 @@
--- If each number of a list is below the next, then any sorted list with the same elements is equal to it.
+-- Let each number of a list be below the next. Then any sorted list with the same elements is equal to this list.
 use Rattle.std.proofs.Common.{◌≡◌, ◌≢◌, ℕ, suc, ◌<◌, ◌≤◌, Bool, cond, List, [], ◌∷◌, ◌⊎◌, inl, inr, refl, sym, subst}
 use Rattle.std.proofs.Common.{ap, ◌∙◌, arith}
 use Rattle.std.specs.Prelude.{⊤, count_by, ◌==◌}
@@ -27,7 +27,7 @@ module _ {X : Type 0} (number : X → ℕ) where
   abbrev pub count : ℕ → List X → ℕ
   count k xs = count_by (λ x. number x == k) xs
 
-  -- if `x` has the number k, then `count k` of `x ∷ xs` is one more than that of `xs`; otherwise the two counts are
+  -- if `x` has the number `k`, then `count k (x ∷ xs)` is one more than `count k xs`; otherwise the two counts are
   -- equal
   counted : (k : ℕ) (x : X) (xs : List X) → ((number x ≡ k) × (count k (x ∷ xs) ≡ suc (count k xs)))
       ⊎ ((number x ≢ k) × (count k (x ∷ xs) ≡ count k xs))
@@ -75,8 +75,8 @@ module _ {X : Type 0} (number : X → ℕ) where
   all_in_rest x xs [] above all = tt
   all_in_rest x xs (y ∷ ys) above all = (in_rest x y xs above.0 all.0, all_in_rest x xs ys above.1 all.1)
 
-  -- let `x ∷ xs` rise, and let `y ∷ ys` be sorted. If `y` is in `x ∷ xs`, and both lists have equally many elements
-  -- with the number of `x`, then `x` is `y`
+  -- let `x ∷ xs` rise, and let `y ∷ ys` be sorted. If `y` is in `x ∷ xs`, and the number of `x` occurs equally often in
+  -- both lists, then `x` is `y`
   same_first : (x y : X) (xs ys : List X) → Rising (x ∷ xs) → Sorted (y ∷ ys) →
       count (number x) (x ∷ xs) ≡ count (number x) (y ∷ ys) → IsIn y (x ∷ xs) → x ≡ y
   same_first x y xs ys rising sorted counts (inl is) = is

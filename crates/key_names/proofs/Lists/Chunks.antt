@@ -1,4 +1,4 @@
--- The chunks of a list, all of one length.
+-- If a list is cut into chunks of `n` elements, chunk `k` has the `n` elements from element `n * k` on.
 use Rattle.std.proofs.Common.{◌≡◌, ℕ, zero, suc, ◌+◌, ◌*◌, ◌<◌, List, [], take, drop, get_or, refl, ap, ◌∙◌, arith}
 use Rattle.std.specs.Simd.{first_chunks}
 use Rattle.std.proofs.lemmas.List.{drop-drop}

@@ -18,7 +18,7 @@ module _ {S E : Type 0} (May : S → E → Type 0) (step : S → E → S) where
   lawful_append s [] ys lawful more = more
   lawful_append s (x ∷ xs) ys lawful more = (lawful.0, lawful_append (step s x) xs ys lawful.1 more)
 
-  -- if `xs` is lawful and its entry `i` is `e`, then `e` may come in the state before it
+  -- if `xs` is lawful and its entry `i` is `e`, then `e` may come in the state before entry `i`
   pub may_at : (s : S) (xs : List E) (i : ℕ) (e : E) → LawfulFrom May step s xs → slice_get xs i ≡ Some e →
       May (fold step s (take i xs)) e
   may_at s [] i e lawful is = cc

@@ -86,8 +86,8 @@ in_order_conform ms order = record {
   rise = rise_from 0 ms order;
 }
 
--- if `ms` is in order from place `i` on, it stays so when the mark `m` is appended, with the next place and a stamp
--- above all others
+-- let `ms` be in order from place `i` on, and let the mark `m` have the next place and a stamp above all others. Then
+-- `ms` with `m` appended is in order, too
 pub in_order_more : (i : ℕ) (ms : List Mark) (m : Mark) → InOrder i ms → AllByRecursion (λ n. n.stamp < m.stamp) ms →
     m.place ≡ i + length ms → InOrder i (ms ++ m ∷ [])
 in_order_more i [] m order below at = (omega arith, tt, tt)

@@ -14,8 +14,8 @@ use Rattle.key_names.specs.Callers.Effects.{Effect, PoolVisit, CpuVisit, looked,
 use Rattle.key_names.specs.Callers.Effects.{effect_or, effect_at, effect_of, pool_visit, base_visit, cpu_visit}
 
 module _ (lists : Lists) where
-  -- `s` is the visit at `place` of `lane`: `lane` is a CPU, whose list has the entry of `s` there; below, the same for
-  -- the pool
+  -- `s` is the visit at `place` of `lane`: `lane` is the lane of a CPU, and the CPU's list has the entry of `s` at
+  -- `place`. Below, the same for the pool
   pub record CpuAt (lane : LaneId) (place : ℕ) (s : CpuVisit) : Type 0 where
     pub lane_is : lane ≡ CpuLane s.cpu
     pub place_is : place ≡ s.place
@@ -96,7 +96,7 @@ module _ (lists : Lists) where
       go None is = absurd (cc is)
       go (Some e) is = absurd (cc is)
 
-  -- `step` is a mark, and its place is that of `s`, a visit of a CPU
+  -- `step` is the mark of the CPU's visit `s`: it has the lane and the place of `s`
   pub record CpuStep (step : Step) (s : CpuVisit) : Type 0 where
     pub mark : Mark
     pub is : step ≡ Marked mark

@@ -34,8 +34,8 @@ module _ (t : List (List SeenLine)) (book : Book) (visits : VisitsAre book (all_
   abbrev lists : Lists
   lists = lists_of book
 
-  -- if the book has the visit `v` at `place` of CPU `c`, the CPU's list has the entry of `v` there; below, the same for
-  -- the pool
+  -- if the book has the visit `v` at `place` of CPU `c`, the CPU's list has the entry of `v` at `place`. Below, the
+  -- same for the pool
   pub cpu_entry_at : (c place : ℕ) (v : Visit CpuEntry) → slice_get (visits_of book c) place ≡ Some v →
       slice_get (cpu_list lists c) place ≡ Some v.entry
   cpu_entry_at c place v at =
@@ -45,7 +45,7 @@ module _ (t : List (List SeenLine)) (book : Book) (visits : VisitsAre book (all_
       slice_get lists.pool place ≡ Some v.entry
   pool_entry_at place v at = entry_at book.pool place v at
 
-  -- `effect` is one of the effects of the line of `who`
+  -- the event of `who` has a line, and `effect` is one of the effects of that line
   pub record InLine (who : Who) (effect : Effect) : Type 0 where
     pub line : SeenLine
     pub among : Among line t

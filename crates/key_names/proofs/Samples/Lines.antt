@@ -144,7 +144,7 @@ mark_of t line mark (lines, lines_in, line_in) here =
       event_is = f.event_is;
     }
 
--- each line of caller c has the number c, and no two lines of the caller have the same event number
+-- each line of caller `c` names `c` as its caller, and no two lines of the caller have the same event number
 
 number_from : (c n : ℕ) (events : List Event) (lines : List SeenLine) (line : SeenLine) → LinesFit c n events lines →
     IsIn line lines → (line.caller ≡ c) × (n ≤ line.event)
@@ -184,7 +184,7 @@ same_line c n (event ∷ events) (l ∷ lines) a b fit (inr x) (inl y) same =
 same_line c n (event ∷ events) (l ∷ lines) a b fit (inr x) (inr y) same =
     same_line c (suc n) events lines a b fit.1 x y same
 
--- if LinesFit holds, a caller has one more line than it has events: the last line is that of its end
+-- if LinesFit holds, a caller has one more line than it has events: the last line is for the caller's end
 pub fits_long : (c n : ℕ) (events : List Event) (lines : List SeenLine) → LinesFit c n events lines →
     length lines ≡ length events + 1
 fits_long c n [] [] fit = absurd fit

@@ -19,7 +19,7 @@ use Rattle.key_names.proofs.History.SortedVisits.{IsIn}
 use Rattle.key_names.proofs.Samples.Lines.{each_in, Among, Apart}
 use Rattle.key_names.proofs.Samples.LineVisits.{InLine, After, cpu_in_line, pool_in_line, cpu_after, pool_after}
 
--- an entry cannot be quiet (EntryIsQuiet) and a dump, nor quiet and make a dump due, nor be a dump and make one due
+-- at most one of three facts is true of an entry: it is quiet (`EntryIsQuiet`), it is a dump, or it makes a dump due
 
 pub quiet_dump : (f : FastPool) (e : CpuEntry) → EntryIsQuiet f e → IsDump e → ⊥
 quiet_dump f (Dump now) quiet dump = quiet
@@ -100,7 +100,8 @@ module _ (fast : ℕ → ℕ → FastPool) (effects : List Effect) where
     mix_in : IsIn (at_pool d.mix) effects
     mix_in = subst (IsIn (at_pool d.mix)) (sym d.effects_are) (inr (inr (inl refl)))
 
--- the bytes that an entry of the pool mixes, if it is a `Mix`, and otherwise no bytes; below, the bits that it credits
+-- the bytes that a `Mix` entry of the pool mixes, and no bytes for any other entry; below, the bits that the entry
+-- credits
 abbrev text_or : PoolEntry → List ℕ
 text_or (Mix text bits) = text
 text_or _ = []
@@ -109,7 +110,7 @@ abbrev bits_or : PoolEntry → ℕ
 bits_or (Mix text bits) = bits
 bits_or _ = 0
 
--- `fast` gives each CPU's fast pool before a visit
+-- `fast` gives the fast pool of a CPU before the visit at a place
 module _ (t : List (List SeenLine)) (book : Book) (fast : ℕ → ℕ → FastPool)
     (fast_is : (c place : ℕ) (v : Visit CpuEntry) → slice_get (visits_of book c) place ≡ Some v →
     fast_before (visits_of book c) place ≡ fast c place)
@@ -206,7 +207,7 @@ module _ (t : List (List SeenLine)) (book : Book) (fast : ℕ → ℕ → FastPo
     conforms line (lines, lines_in, line_in) =
         each_in Conforms line lines (each_in (AllByRecursion Conforms) lines t samples lines_in) line_in
 
-    -- the line of the event `who`, whose dump is at place `k` of CPU `c`
+    -- the line of the event of `who`. The dump among the line's effects is at place `k` of CPU `c`
     record OfDump (c k : ℕ) (who : Who) : Type 0 where
       line : SeenLine
       among : Among line t

@@ -1,5 +1,5 @@
--- A draft is the script before a line. A draft without a fault (`Fine`) stays so if an event or a block without a fault
--- is added. The script of such a draft is well formed at the end.
+-- A draft is the part of a script before a line. A draft without a fault (`Fine`) stays so if an event or a block
+-- without a fault is added. The script of such a draft is well formed at the end.
 use Rattle.std.proofs.Common.{◌≡◌, ℕ, zero, suc, ◌+◌, ◌<◌, ◌≤◌, ◌==◌, leb, ltb, false, cond, ◌&&◌, ◌||◌, ◌⊎◌, inl, inr, List, [], ◌∷◌, ◌++◌, length, refl, sym, subst, ◌∙◌, arith}
 use Rattle.std.specs.List.{AllByRecursion, list_any}
 use Rattle.std.specs.Prelude.{count_by, fold, nat_lt, sum_by, if◌then◌else◌}
@@ -14,7 +14,7 @@ use Rattle.key_names.specs.Texts.ScriptFaults.{Draft, blocks_of, has_orphan, is_
 
 -- ---- sums over the events of a script
 
--- `f` counts over a list of events: it is 0 for the empty list, and for two joined lists the sum of their counts
+-- `f` counts over a list of events: the empty list counts 0, and two joined lists count the sum of their counts
 pub record Adds (f : List Event → ℕ) : Type 0 where
   pub none : f [] ≡ 0
   pub more : (xs ys : List Event) → f (xs ++ ys) ≡ f xs + f ys
@@ -235,7 +235,7 @@ none_of n c (event ∷ events) high e =
     let here : count_by (is_fork_of c) (event ∷ []) ≡ 0 = rw (not_of n c event high parts.0) refl in
     omega (arith, (forks_of c).more (event ∷ []) events, none_of n c events high parts.1)
 
--- if no event forks n or a higher number, then number c, which is at least n, is never forked
+-- if no event forks `n` or a higher number, and `c` is at least `n`, then `c` is never forked
 pub no_orphan : (n c : ℕ) (callers : List (List Event)) → n ≤ c → list_any (list_any (is_fork_from n)) callers ≡
     false → times_forked callers c ≡ 0
 no_orphan n c [] high e = refl

@@ -1,4 +1,4 @@
--- In the line of an event that is in its range, each field has only graphic characters (`Clean`).
+-- If an event is in range, each field of its line has only graphic characters (`Clean`).
 use Rattle.std.proofs.Common.{ℕ, ◌≤◌, refl, arith}
 use Rattle.std.specs.List.{AllByRecursion}
 use Rattle.std.specs.Prelude.{codes}

@@ -1,5 +1,4 @@
--- The fields after a word are read as an event if and only if they are the event's fields, and the event is in its
--- range.
+-- The fields after a word are read as an event if and only if the event is in range and these are its fields.
 use Rattle.std.proofs.Common.{◌≡◌, ℕ, ◌^◌, ◌<◌, ◌≤◌, leb, Bool, true, false, cond, inl, inr, Result, Ok, Err, List, [], ◌∷◌, refl, sym, ap, subst, ◌∙◌, arith}
 use Rattle.std.specs.Prelude.{codes}
 use Rattle.std.specs.Str.{bytes_eq}

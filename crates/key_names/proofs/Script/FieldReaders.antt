@@ -31,7 +31,7 @@ pub found : {A E : Type 0} (o : Option A) (k : E) (x : A) → ok_or o k ≡ Ok x
 found {A} {E} (Some y) k x e = ap (λ (z : A). Some z) (same_ok {A = A} {E = E} y x e)
 found None k x e = absurd cc
 
--- `read` takes exactly the fields that `spell` gives for values for which `Fits` holds
+-- `read` takes a field as the value `a` exactly if `Fits a` holds and the field is `spell a`
 pub record Spells {A : Type 0} (read : List ℕ → Result A FaultKind) (spell : A → List ℕ) (Fits : A → Type 0)
     : Type 0 where
   pub takes : (field : List ℕ) (a : A) → read field ≡ Ok a → (field ≡ spell a) × Fits a

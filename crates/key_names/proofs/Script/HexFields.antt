@@ -143,7 +143,8 @@ none_else field dash not (Some (b ∷ bytes)) e =
     absurd (not (b ∷ bytes) long (rw (is.0) (lower_encoded (b ∷ bytes) is.1))
     (rw (is.0) (decode_of-encode_lower (b ∷ bytes) is.1)))
 
--- if `field` is no dash, and does not consist of lower-case digits that decode to bytes, then it is not read as bytes
+-- a field other than a dash is read as bytes only if it is not empty and consists of lower-case digits that decode to
+-- bytes
 pub bytes_none : (field : List ℕ) → bytes_eq field (hex []) ≡ false
     → ((bytes : List ℕ) → 0 < length field → AllLower field → decode_of field ≡ Ok bytes → ⊥) → bytes_of field ≡ None
 bytes_none field dash not = none_else field dash not (bytes_of field) refl

@@ -12,7 +12,7 @@ use Rattle.key_names.specs.Texts.ScriptFaults.{number_below}
 own : IsNumeralModel (AllDigits 10) (digits_value 10)
 own = numerals_by_value (AllDigits 10) tells_digits
 
--- the field has only digits, at least one, and begins with 0 only if it is one digit
+-- the field has at least one digit, and nothing but digits. If it begins with 0, it is one digit long
 pub record IsNumber (field : List ℕ) : Type 0 where
   pub digits : AllDigits 10 field
   pub some : 0 < length field
@@ -35,7 +35,7 @@ IsNumber-decimal n small = record {
 pub value_of_decimal : (n : ℕ) → n < 2 ^ 64 → digits_value 10 (decimal n) ≡ n
 value_of_decimal n small = digits_value-decimal own n small
 
--- if the choice between `Some x` and `None` by `b` gives the value `y`, then `b` is true, and `y` is `x`
+-- if `cond b (Some x) None` is `Some y`, then `b` is true, and `y` is `x`
 met : {A : Type 0} (b : Bool) (x y : A) → cond b (Some x) None ≡ Some y → (b ≡ true) × (x ≡ y)
 met true x y e = (refl, cc)
 met false x y e = absurd cc
@@ -69,7 +69,7 @@ none_else limit field wide not (Some n) e =
     let value : digits_value 10 field ≡ n = rw is.1 (value_of_decimal n (omega (arith, is.0))) in
     absurd (not (rw is.1 (IsNumber-decimal n (omega (arith, is.0)))) (omega (arith, is.0)))
 
--- if `field` is not the spelling of a number below the limit, it is not read as a number
+-- `field` is read as a number only if it is the spelling of a number below the limit
 pub number_none : (limit : ℕ) (field : List ℕ) → limit ≤ 2 ^ 64 → (IsNumber field → digits_value 10 field < limit → ⊥)
     → number_below limit field ≡ None
 number_none limit field wide not = none_else limit field wide not (number_below limit field) refl

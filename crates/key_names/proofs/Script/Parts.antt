@@ -1,4 +1,4 @@
--- How a text is split at each byte of one value (`parts`).
+-- `parts` splits a text at each byte that has a given value.
 use Rattle.std.proofs.Common.{◌≡◌, ℕ, ◌==◌, Bool, true, false, cond, rules, List, [], ◌∷◌, ◌++◌, All, refl}
 use Rattle.std.specs.List.{onto_first}
 use Rattle.std.proofs.lemmas.List.Splits.{slice_split_at, slice_split_none}

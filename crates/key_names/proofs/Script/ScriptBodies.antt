@@ -51,8 +51,8 @@ nothing_takes n ((b ∷ tail) ∷ next ∷ more) x e =
 
 -- ---- the lines of a script that follow a draft
 
--- the lines after a draft with `c` finished blocks: those of `es`, the further events of the current block, those of
--- the blocks `later`, and the line `end`
+-- the lines after a draft with `c` finished blocks. First come the lines of `es`, the further events of the current
+-- block. The lines of the blocks `later` and the line `end` follow
 abbrev pub rest_lines : ℕ → List Event → List (List Event) → List (List ℕ)
 rest_lines c es later = map spaced ((map event_fields es ++ block_lines (suc c) later) ++ (codes "end" ∷ []) ∷ [])
     ++ [] ∷ []

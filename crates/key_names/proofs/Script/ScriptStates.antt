@@ -1,4 +1,4 @@
--- In a well-formed script, a caller's current vgetrandom state is always one of its sixteen.
+-- In a well-formed script, a caller's current vgetrandom state is always one of that caller's sixteen states.
 use Rattle.std.proofs.Common.{ℕ, ◌<◌, List, []}
 use Rattle.std.specs.Prelude.{⊤}
 use Rattle.std.specs.List.{AllByRecursion}

@@ -1,4 +1,5 @@
--- Lemmas that cut and join pieces of a keystream (`len` bytes from byte `from` on). A published block is computed.
+-- A piece of a keystream is its `len` bytes from byte `from` on. Lemmas cut and join such pieces. A published block is
+-- computed.
 use Rattle.std.proofs.Common.{zero, suc, ◌+◌, ◌-◌, ◌<◌, ◌≤◌, ◌++◌, ap, sym, ◌∙◌, arith, ◌≡◌, ℕ, List, [], ◌∷◌, refl, replicate, length, take, drop, append-nil}
 use Rattle.std.specs.Prelude.{slice_range, slice_index}
 use Rattle.std.proofs.lemmas.List.FromFn.{length-map-range_with_len, get_or-map-range_with_len, take-map-range_with_len}

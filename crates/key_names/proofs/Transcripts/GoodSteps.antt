@@ -1,5 +1,5 @@
 -- In a lawful transcript, if a call's first look found the core ready, the later steps of the call's host are good
--- (`Good`): each generation that the host publishes is above 0, and each key that it reads was handed over by a CPU.
+-- (`Good`). Each generation that the host publishes is above 0, and a CPU handed over each key that the host reads.
 use Rattle.std.proofs.Common.{◌≡◌, ℕ, zero, suc, ◌≤◌, arith, List, [], ◌∷◌, ◌++◌, sym, subst, ap, ◌∙◌}
 use Rattle.key_names.specs.Lanes.Book.{Lists}
 use Rattle.key_names.specs.Callers.Calls.{Setting}

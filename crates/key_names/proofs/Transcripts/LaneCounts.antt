@@ -48,8 +48,8 @@ of_lane Q lane (by ∷ marks) all = go (is_same_lane by.mark.lane lane) refl (of
         (subst P (same_lane by.mark.lane lane is) all.0, rest)
     go false is rest = rest
 
--- if Q holds for the place of each mark of a lane, and PlacesConform holds for these marks, then Q holds for each place
--- below their number
+-- let Q hold for the place of each mark of a lane, and let PlacesConform hold for these marks. Then Q holds for each
+-- place below the number of marks
 module _ (Q : ℕ → Type 0) where
   at_some : (place : ℕ) (ms : List Mark) → AllByRecursion (λ m. Q m.place) ms →
       1 ≤ count_by (λ mark. mark.place == place) ms → Q place
@@ -117,7 +117,7 @@ one_more_mark : (lane : LaneId) (by : MarkBy) (marks : List MarkBy) →
     mark_count lane (by ∷ marks) ≡ one_if (is_same_lane by.mark.lane lane) + mark_count lane marks
 one_more_mark lane by marks = count_if (is_same_lane by.mark.lane lane) by (lane_marks lane marks)
 
--- if the lane of a mark is none of the CPUs from `c` on, the mark is not counted
+-- if the lane of a mark is not the lane of a CPU from `c` on, the mark is not counted
 skips : {X : Type 0} (c : ℕ) (xs : List X) (by : MarkBy) (marks : List MarkBy) →
     ((d : ℕ) → c ≤ d → is_same_lane by.mark.lane (CpuLane d) ≡ false) →
     cpu_counts c xs (by ∷ marks) ≡ cpu_counts c xs marks
@@ -130,7 +130,7 @@ skips c (x ∷ xs) by marks other =
     let rest : cpu_counts (suc c) xs (by ∷ marks) ≡ cpu_counts (suc c) xs marks =
     skips (suc c) xs by marks (λ d le. other d (omega arith)) in omega arith
 
--- if the mark `by` is of one of the counted CPUs, it adds 1 to the count
+-- if the mark `by` is in the lane of a counted CPU, it adds 1 to the count
 counts_once : {X : Type 0} (c d e : ℕ) (xss : List (List X)) (by : MarkBy) (marks : List MarkBy) → e ≡ c + d →
     by.mark.lane ≡ CpuLane e → 1 ≤ length (list_at xss d) → cpu_counts c xss (by ∷ marks) ≡ 1 + cpu_counts c xss marks
 counts_once c d e [] by marks at lane there = absurd (omega arith)

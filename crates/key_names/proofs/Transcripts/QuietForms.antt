@@ -1,4 +1,4 @@
--- Only an event that is an interrupt has a dump, or makes one due. So the samples of every other event are correct.
+-- Only an interrupt can contain a dump or make a dump due. So the samples of every other event are correct.
 use Rattle.std.proofs.Common.{◌≡◌, ℕ, ◌⊎◌, inl, inr, Bool, true, false, not, List, [], ◌∷◌, sym, subst}
 use Rattle.std.specs.Prelude.{MatchBool, ◌==◌, ◌&&◌, ⊤}
 use Rattle.std.specs.List.{AllByRecursion}
@@ -70,7 +70,7 @@ module _ (fast : ℕ → ℕ → FastPool) where
       (effects : List Effect) → Looked P effects → Quiet effects
   after_look P quiet effects f = are effects (looked f.0 ∷ f.1) f.2 (tt, quiet f.0 f.1 f.3)
 
-  -- if A makes the effects quiet, and so does B, then so does the choice between A and B by `b`
+  -- if A implies that the effects are quiet, and so does B, then the choice between A and B by `b` implies it, too
   choice : (b : Bool) (A B : Type 0) (effects : List Effect) → (A → Quiet effects) → (B → Quiet effects) → MatchBool b A B →
       Quiet effects
   choice true A B effects x y h = x h

@@ -131,7 +131,7 @@ module _ (c p : ℕ) where
   effects_within lists (Marked mark ∷ steps) =
       lane_effect lists mark.lane mark.place (effects_of lists steps) (mark_takes (CpuLane c) p steps) (effects_within lists steps)
 
--- `at_place` counts the marks that have place q; `below` counts those that have a place below n
+-- `at_place` counts the marks with place `q`; `below` counts the marks with a place below `n`
 at_place : ℕ → List Mark → ℕ
 at_place q [] = 0
 at_place q (m ∷ ms) = cond (m.place == q) 1 0 + at_place q ms

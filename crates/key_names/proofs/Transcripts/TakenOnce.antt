@@ -34,8 +34,8 @@ module _ (c p : ℕ) where
   abbrev all_takes : List (List CallMeaning) → ℕ
   all_takes = calls.all_takes c p
 
-  -- the entries of state k take the read as a key at most as often as all entries of the state's caller. The same is
-  -- true of the entries of two different states together
+  -- the entries of state `k` take the read as a key at most as often as all entries of the state's caller do. The same
+  -- is true of the entries of two different states, counted together
   one_state : (k : ℕ) (ms : List CallMeaning) → takes c p (entries_of_state k ms) ≤ caller_takes ms
   one_state k [] = omega arith
   one_state k (m ∷ ms) =

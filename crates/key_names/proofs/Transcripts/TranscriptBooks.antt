@@ -34,7 +34,7 @@ made_beyond f from zero k le = refl
 made_beyond f from (suc count) zero le = absurd (omega arith)
 made_beyond f from (suc count) (suc k) le = made_beyond f (from + 1) count k (omega arith)
 
--- from caller `c` on, the book's lists of states are those that the meanings `mss` of the calls make
+-- from caller `c` on, the calls' meanings `mss` make the book's lists of states
 abbrev pub HasStates : Lists → ℕ → List (List CallMeaning) → Type 0
 HasStates lists c mss = (i : ℕ) → list_at lists.callers (c + i) ≡ list_at (map state_lists mss) i
 

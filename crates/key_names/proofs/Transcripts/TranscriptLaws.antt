@@ -15,7 +15,7 @@ use Rattle.key_names.proofs.Transcripts.TakenMarks.{one_mark}
 use Rattle.key_names.proofs.Transcripts.CallTakes.{all_takes, callers_within, all_calls_marks, all_marks_within}
 use Rattle.key_names.proofs.Transcripts.TakenOnce.{one_entry}
 
--- all calls together have at most one mark of a place
+-- all calls together have at most one mark for place `p` of `lane`
 pub one_call_mark : (lane : LaneId) (p : ℕ) (script : Script) (t : List (List SeenLine)) → MarksConform script t →
     all_calls_marks lane p (script_calls script t) ≤ 1
 one_call_mark lane p script t conform =

@@ -45,7 +45,8 @@ module _ (lists : Lists) (caller k : ℕ) (below : k < 16) where
   abbrev Holds : Both → VgetrandomState → Type 0
   Holds = replay.Holds lists caller k
 
-  -- after the call with the meaning `m`, state k matches the replay `x` with the call's entries for state k added
+  -- extend the replay `x` by the call's entries for state `k`. Then state `k` matches it after the call with the
+  -- meaning `m`
   pub record Leaves (x : Both) (m : CallMeaning) : Type 0 where
     pub length_is : length m.after.states ≡ 16
     pub holds : Holds (after x (if m.before.current == k then m.entries else [])) (state_number k m.after)
@@ -123,7 +124,7 @@ module _ (lists : Lists) (caller k : ℕ) (below : k < 16) where
   not_true true h = cc
   not_true false h = refl
 
-  -- if state k matches the replay `x`, `Leaves` holds after a vread that a copy without a vgetrandom call served
+  -- let state `k` match the replay `x`. `Leaves` holds after a vread that a copy served without a vgetrandom call
   local_holds : (x : Both) (n : ℕ) (rest : List Effect) (m : CallMeaning) → 1 ≤ n → length m.before.states ≡ 16 →
       Holds x (state_number k m.before) → ByLocalCopy n rest m → Leaves x m
   local_holds x n rest m some len h by =
@@ -179,7 +180,7 @@ module _ (lists : Lists) (caller k : ℕ) (below : k < 16) where
       subst Q (sym (fold-append (replay.step lists caller k) x es (entries_of_state k (take j ms))))
       (calls_hold j (after x es) m.after calls ms leaves.length_is leaves.holds effects.1 mean.2)
 
-  -- the names and bytes of a state before its first entry, with which a replay begins
+  -- the names and bytes with which a replay begins: those of a state before its first entry
   abbrev pub start : Both
   start = record { named = state_start; bytes = state_bytes_start }
 

@@ -50,8 +50,8 @@ module _ (lists : Lists) (caller k : ℕ) (below : k < 16) where
   abbrev Reads : List VEntry → Type 0
   Reads es = AllByRecursion (TakesRead (cpu_list lists)) es
 
-  -- after a call, state k is settled (it matches its list, `Settled`). If state k was the current one, the call's
-  -- entries keep its list in order; otherwise its list gets no entry
+  -- after a call, state k is settled (it matches its list, `Settled`). If state k was the current state, the call's
+  -- entries keep that state's list in order; otherwise the list gets no entry
   record Leaves (t : NamedState) (m : CallMeaning) : Type 0 where
     length_is : length m.after.states ≡ 16
     keeps : Keeps caller k (λ u. Settled u (state_at m.after k)) t

@@ -1,5 +1,5 @@
--- Answers and data do not change the calls, marks, orders and settings that lines make. A bare line is a line with the
--- answer `Ok` and no data instead of its own.
+-- Answers and data do not change the calls, marks, orders and settings that lines make. A bare line has the answer `Ok`
+-- and no data in place of the line's own.
 use Rattle.std.proofs.Common.{◌≡◌, ℕ, zero, suc, Bool, true, false, Option, Some, None, List, [], ◌∷◌, ◌++◌, length, map, refl, sym, ap, ◌∙◌}
 use Rattle.std.specs.Prelude.{◌==◌, take, drop, if◌then◌else◌}
 use Rattle.std.specs.List.{fold, flat_map}

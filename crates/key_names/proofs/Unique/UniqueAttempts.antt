@@ -43,7 +43,7 @@ not_zero g some = go (g == 0) refl
     go true is = let zero_is : g ≡ 0 = eqb-true g 0 is in absurd (omega arith)
     go false is = is
 
--- the effects `call` are those of a system call that reads a key from a CPU: `PlainKey` without a refill, `RefilledKey`
+-- `call` lists the effects of a system call that reads a key from a CPU: `PlainKey` without a refill, `RefilledKey`
 -- with one
 record PlainKey (call : List Effect) : Type 0 where
   g : ℕ
@@ -109,7 +109,7 @@ module _ (book book' : Book) (who : Who) (set : Setting) where
   abbrev Inferred : List Effect → List Effect → Type 0
   Inferred = AllInferred book book' who
 
-  -- if the looks of some steps found the core ready in one book, they did so in the other too
+  -- if the looks of some steps found the core ready in one book, they found it ready in the other, too
   same_ready : (ds ds' : List Effect) → Same ds ds' → AllReady ds → AllReady ds'
   same_ready ds ds' same ready = let P : List ℕ → Type 0 = λ gs. AllByRecursion (λ g. 1 ≤ g) gs in
       subst P (same_looks book book' who ds ds' same) ready
@@ -168,8 +168,7 @@ module _ (book book' : Book) (who : Who) (set : Setting) where
       (record { calm = refl; serves = refl; at = refl }) s.1.1.1.0 (s.0, (s.1.0, (s.1.1.0, (s.1.1.1.0, tt)))) s.1.1.1.1
       r.1.1 (λ t u. (tt, (tt, (t.1.1.0, (t.1.1.1.0, u)))))
 
-  -- the rest of a vread in both books: the host's steps and the effects that are left. V holds for the points that are
-  -- left
+  -- what is left of a vread in the two books: the host's steps and the effects. V holds for the points that are left
   pub record Here (V : List PointReached → Type 0) (steps steps' : List HostStep) (ds ds' : List Effect) : Type 0 where
     pub shows : Shows set steps ds
     pub shows' : Shows set steps' ds'

@@ -52,7 +52,7 @@ module _ (book book' : Book) (who : Who) (set : Setting) where
   shows_at : (steps xs : List HostStep) (ds : List Effect) → steps ≡ xs → Shows set steps ds → Shows set xs ds
   shows_at steps xs ds p shows = let P : List HostStep → Type 0 = λ x. Shows set x ds in subst P p shows
 
-  -- the effects `ds` that are left are those of one system call, which gives this answer
+  -- the effects `ds` that are left are the effects of one system call, which gives this answer
   record Left (n flags : ℕ) (answer : SystemAnswer) (ds : List Effect) : Type 0 where
     form : SysForm set n flags ds
     answers : answer ≡ answer_after flags ds
@@ -151,7 +151,7 @@ module _ (book book' : Book) (who : Who) (set : Setting) where
           more more' by by' h.shows h.shows' h.same
 
   module _ (acts : List BoundAct) where
-    -- what WipesConform requires in the first attempt of the points that are left; below, what it requires in the
+    -- what WipesConform requires, during the first attempt, of the points that are left; below, the same during the
     -- second
     abbrev InFirst : List PointReached → Type 0
     InFirst points = AllByRecursion (λ r. r.wiped ≡ is_wiped acts r.point) (before_start points)

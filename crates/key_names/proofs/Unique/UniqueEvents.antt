@@ -52,8 +52,8 @@ module _ (book book' : Book) (who : Who) (samples : LawfulSamples book) (samples
   abbrev Tell : (List Effect → Type 0) → (List Effect → Type 0) → Type 0
   Tell = Tells book book' who
 
-  -- let equal lists of the pool in both books imply that a credit crosses the same threshold. Then the form of the
-  -- effects after the credit determines their entries
+  -- let a credit cross the same threshold in both books if the pool's lists are equal. Then the form of the effects
+  -- after the credit determines their entries
   inferred_cross : (set : Setting) (c c' : Crossing) → ((lists_of book).pool ≡ (lists_of book').pool → c ≡ c') →
       Tell (Cross set c) (Cross set c')
   inferred_cross set none none alike ds ds' f f' same = inferred_nothing book book' who ds ds' f f' same
@@ -261,7 +261,7 @@ module _ (book book' : Book) (who : Who) (samples : LawfulSamples book) (samples
       ))
       same
 
-  -- if an event is a call by itself, its form determines the entry of each of its visits
+  -- if an event is a call by itself, the event's form determines the entry of each visit of the event
   pub inferred_event : (set : Setting) (event : Event) → Tell (Form set event) (Form set event)
   inferred_event set (Write text) = inferred_pool_only book book' who (Mix text 0)
   inferred_event set (Device word text) = inferred_pool_only book book' who (device_entry word text)

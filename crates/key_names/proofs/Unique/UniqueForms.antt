@@ -56,7 +56,8 @@ module _ (book book' : Book) (who : Who) where
   inferred_cpu_only c e ds ds' f f' same =
       through book book' who f.effects_are f'.effects_are (λ s. (λ fills. f.is ∙ sym f'.is, tt)) same
 
-  -- the steps determine whether the base's entry names a root: a visit of the pool comes first exactly if it does
+  -- the steps determine whether the base's entry names a root: the entry names one exactly if a visit of the pool comes
+  -- first
   pub inferred_rooted_or_not : (set : Setting) (e : ℕ → BaseEntry) (plain : BaseEntry) →
       Tell (λ ds. Rooted set e ds ⊎ BaseOnly plain ds) (λ ds. Rooted set e ds ⊎ BaseOnly plain ds)
   inferred_rooted_or_not set e plain =

@@ -51,7 +51,7 @@ same_rows (xs ∷ xss) [] long each = absurd (omega arith)
 same_rows (xs ∷ xss) (ys ∷ yss) long each =
     ap (λ z. z ∷ xss) (each 0) ∙ ap (λ zs. ys ∷ zs) (same_rows xss yss (omega arith) (λ i. each (suc i)))
 
--- the fills of a CPU's batches depend only on that CPU's list, and not on the base's
+-- the fills of a CPU's batches depend only on that CPU's list, and not on the base's list
 fills_alone : (base base' : List BaseEntry) (c : ℕ) (es : List CpuEntry) (s s' : CpuState) → s.place ≡ s'.place →
     s.key ≡ s'.key → s.fills ≡ s'.fills → (fold (cpu_step base c) s es).fills ≡ (fold (cpu_step base' c) s' es).fills
 fills_alone base base' c [] s s' place key fills = fills
@@ -60,7 +60,7 @@ fills_alone base base' c (e ∷ es) s s' place key fills =
     (λ i. cpu_key_after c (place i) e (key i))
     (λ i. fills_after (place i) e (cpu_key_in_use e (key i)) (fills i))
 
--- a maker for the lemmas that need one: whether two entries are the same does not depend on the maker
+-- a placeholder for the lemmas that need a maker. Whether two entries are the same does not depend on the maker
 abbrev nobody : Who
 nobody = record { caller = 0; event = 0; step = 0 }
 

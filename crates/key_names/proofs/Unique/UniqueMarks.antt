@@ -66,7 +66,7 @@ module _ (book book' : Book) (lawful : LawfulLanes (lists_of book)) (lawful' : L
   abbrev by : ℕ → Who
   by i = record { caller = c; event = n; step = i }
 
-  -- the visit that `f` has found was made by the event of `who`
+  -- the event of `who` made the visit that `f` gives
   made_by : {E : Type 0} (visits : List (Visit E)) (i place : ℕ) (f : Found visits place (by i)) →
       SameEvent f.visit.who who
   made_by visits i place f = (ap (λ (w : Who). w.caller) f.made, ap (λ (w : Who). w.event) f.made)

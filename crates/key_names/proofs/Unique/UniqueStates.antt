@@ -1,5 +1,5 @@
--- Two vgetrandom states are alike if they differ at most in the bytes of key and batch, and are equal if H holds
--- (`SameState`). Two states that are alike stay alike if both get the same use.
+-- Two vgetrandom states are alike (`SameState`) if they differ at most in the bytes of key and batch, and do not differ
+-- at all when H holds. Two states that are alike stay alike if both get the same use.
 use Rattle.std.proofs.Common.{◌≡◌, ℕ, ◌+◌, Bool, true, false, List, ◌++◌, refl, sym, subst, ap, ◌∙◌}
 use Rattle.std.specs.Prelude.{if◌then◌else◌}
 use Rattle.key_names.specs.declared.entries.VEntry.{VEntry}

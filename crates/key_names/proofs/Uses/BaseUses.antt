@@ -157,7 +157,7 @@ in_use refill pool s e conforms old = record {
     named_conforms r is = let W : Option ℕ → Type 0 = λ o. RootConforms pool s o in
         let R : RootConforms pool s (Some r) = subst W is conforms in R.0
 
--- if the entry at place `i` erases, the key after it is named `Base i`; otherwise it is the key in use
+-- if the entry at place `i` erases, the key after the entry is named `Base i`; otherwise the key in use stays
 pub after_cases : (i : ℕ) (e : BaseEntry) (key : Option KeyName) (k : KeyName) → base_key_after i e key ≡ Some k →
     ((base_erases e ≡ true) × (Base i ≡ k)) ⊎ ((base_erases e ≡ false) × (base_key_in_use e key ≡ Some k))
 after_cases i e key k h = elim (choice_cases (base_erases e) (Some (Base i)) (base_key_in_use e key) (Some k) h)
@@ -221,7 +221,7 @@ some_of : (o : Option ℕ) → is_some o ≡ true → (r : ℕ) × (o ≡ Some r
 some_of None h = cc
 some_of (Some r) h = (r, refl)
 
--- if an entry names a root, which replaces the base's key, MayUse allows no byte of the replaced key after the entry
+-- a root that an entry names replaces the base's key. MayUse allows no byte of the replaced key after the entry
 replaced_not_later : (refill : ℕ → Option (ℕ × ℕ)) (pool : List PoolEntry) (s : BaseState) (e : BaseEntry) →
     RootConforms pool s (root_of e) →
     InUse refill s e → KeyIsOld s → (k : KeyName) (q : ℕ) → is_some (root_of e) ≡ true → s.key ≡ Some k →

@@ -8,7 +8,7 @@ use Rattle.key_names.specs.Keys.Uses.{kept, served, use_of, IsUsed, Disjoint, ba
 use Rattle.key_names.specs.Kernel.Batches.{Fill, one_more_served}
 use Rattle.key_names.proofs.Uses.UseLists.{UsesByte, one_use, one_use_disjoint, choice_cases}
 
--- byte q of the key is in a batch of the CPU that was filled with the key, and was not served yet
+-- a batch of the CPU was filled with the key. Byte `q` of the key is in this batch, and was not served yet
 pub record InBatch (fills : ℕ → Option Fill) (key : KeyName) (q : ℕ) : Type 0 where
   pub width : ℕ
   pub fill : Fill
@@ -53,7 +53,7 @@ filled_cases place width look used fills w f is =
 abbrev pub served_after : ℕ → (ℕ → Option Fill) → ℕ → Option Fill
 served_after width fills w = if w == width then one_more_served (fills w) else fills w
 
--- the fill of width w before one more integer of `width` was served, if the fill is f afterwards
+-- let `f` be the fill of width `w` after one more integer of `width` was served. This is the fill before
 pub record Before (width : ℕ) (fills : ℕ → Option Fill) (w : ℕ) (f : Fill) : Type 0 where
   pub fill : Fill
   pub is : fills w ≡ Some fill
@@ -110,7 +110,7 @@ batch_disjoint width (Some fill) = one_use_disjoint served fill.key _ _
 pub same_fill : (fills : ℕ → Option Fill) (w : ℕ) (f g : Fill) → fills w ≡ Some f → fills w ≡ Some g → f.count ≡ g.count
 same_fill fills w f g p q = ap (λ o. option_map_or (λ (x : Fill). x.count) o 0) (sym p ∙ q)
 
--- an integer that fills its batch uses only bytes of the key in use, and only those below 32 + `width`
+-- an integer that fills its batch uses only bytes of the key in use, all below 32 + `width`
 pub fill_within : (key : KeyName) (width : ℕ) (k : KeyName) (q : ℕ) →
     IsUsed (use_of kept key 0 32 ∷ use_of served key 32 width ∷ []) k q →
     (key ≡ k) × (q < 32 + width)

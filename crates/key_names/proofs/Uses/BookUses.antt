@@ -125,8 +125,8 @@ fill_byte fills width span k q is h = go (fills width) refl is
         (record { width = width; fill = fill; is = at; key_is = m.key_is; unserved = m.above }, refl)
 
 module _ (lists : Lists) (lanes : ForwardLawful lists) (states : LawfulStates lists) where
-  -- no name belongs to a CPU and a vgetrandom state: a state takes a read of 32 bytes, and a CPU uses the call key only
-  -- of a longer read
+  -- no name belongs to a CPU and a vgetrandom state: a state takes only reads of 32 bytes, and a CPU uses call keys
+  -- only for longer reads
   cpu_state_apart : (c caller state : ℕ) (k : KeyName) → Own lists (cpu_key c) k →
       Own lists (state_key caller state) k → ⊥
   cpu_state_apart c caller state k a (inl v) =
@@ -187,7 +187,7 @@ module _ (lists : Lists) (lanes : ForwardLawful lists) (states : LawfulStates li
       ap (λ (x : StatePlace). x.place) (states.one_taker a b read p q))
       (states.states caller state)
 
-  -- each holder uses no byte twice, and uses only its own names
+  -- each holder uses no byte twice, and uses only keys whose names are its own
   pub own_uses : (h : KeyHolder) → Part (Own lists h) (uses_of lists h)
   own_uses base_key = record {
     disjoint = base_walk.disjoint;
@@ -211,7 +211,7 @@ module _ (lists : Lists) (lanes : ForwardLawful lists) (states : LawfulStates li
   cpus_part = parts_below (λ c. Own lists (cpu_key c)) (cpu_uses lists) (cpus_apart lists)
       (λ c. own_uses (cpu_key c)) (length lists.cpus)
 
-  -- the caller and the number of the vgetrandom state that holds a key, and 0 for other holders
+  -- `caller_of` and `state_of`: the caller and the number of a vgetrandom state that holds a key; 0 for other holders
   abbrev caller_of : KeyHolder → ℕ
   caller_of base_key = 0
   caller_of (cpu_key c) = 0

@@ -20,7 +20,7 @@ module _ (base : List BaseEntry) (c : ℕ) (taken : ℕ → Option Taken) where
   pub made_once : (b k l : ℕ) → MadeFor b k → MadeFor b l → k ≡ l
   made_once b k l m n = ap (λ o. option_map_or (λ p. p.1) o 0) (sym m.is ∙ n.is)
 
-  -- the name of a key that CPU c kept, or was handed by the base, at a place before `place`
+  -- the name of a key that CPU `c` kept at a place before `place`, or that the base handed over for such a place
   abbrev pub IsOld : ℕ → KeyName → Type 0
   IsOld place (Cpu d i) = (d ≡ c) × (i < place)
   IsOld place (Call BaseLane b) = (k : ℕ) × MadeFor b k × (k < place)
@@ -95,7 +95,7 @@ module _ (base : List BaseEntry) (c : ℕ) (taken : ℕ → Option Taken) where
   pub call_later : (place b : ℕ) (k : KeyName) → MadeFor b place → Call BaseLane b ≡ k → IsLater place k
   call_later place b k made e = let P : KeyName → Type 0 = λ x. IsLater place x in subst P e (place, made, omega arith)
 
-  -- if the entry at place `i` erases, the key after it is named `Cpu c i`; otherwise it is the key in use
+  -- if the entry at place `i` erases, the key after the entry is named `Cpu c i`; otherwise the key in use stays
   pub after_cases : (i : ℕ) (e : CpuEntry) (key : Option KeyName) (k : KeyName) → cpu_key_after c i e key ≡ Some k →
       ((cpu_erases e ≡ true) × (Cpu c i ≡ k)) ⊎ ((cpu_erases e ≡ false) × (cpu_key_in_use e key ≡ Some k))
   after_cases i e key k h = elim (choice_cases (cpu_erases e) (Some (Cpu c i)) (cpu_key_in_use e key) (Some k) h)

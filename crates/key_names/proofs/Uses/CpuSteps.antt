@@ -64,8 +64,8 @@ module _ (base : List BaseEntry) (c : ℕ) (taken : ℕ → Option Taken) where
   abbrev pub MayUse : ℕ → Option KeyName → (ℕ → Option Fill) → KeyName → ℕ → Type 0
   MayUse place key fills k q = (key ≡ Some k) ⊎ InBatch fills k q ⊎ IsLater place k
 
-  -- the name of `used`, the key in use at `place`, is old for the next place. It is neither the name of the key that
-  -- `place` keeps nor the name of a fill's key
+  -- the name of `used`, the key in use at `place`, is old for the next place. It differs from the name of the key that
+  -- `place` keeps and from the name of each fill's key
   pub record InUse (place : ℕ) (key used : Option KeyName) (fills : ℕ → Option Fill) : Type 0 where
     pub old : (k : KeyName) → used ≡ Some k → IsOld (suc place) k
     pub not_own : (k : KeyName) → used ≡ Some k → Cpu c place ≡ k → ⊥

@@ -41,7 +41,7 @@ module _ (caller state : ℕ) (rekeys : ℕ → Option (ℕ × ℕ)) where
     pub taken : rekeys at ≡ Some (cpu, cpu_place)
     pub is : Call (CpuLane cpu) cpu_place ≡ k
 
-  -- k is the name of a key that the refill with the number `refills` or a later one keeps
+  -- `k` is the name of a key that refill number `refills` or a later refill keeps
   pub record KeptFrom (refills : ℕ) (k : KeyName) : Type 0 where
     pub number : ℕ
     pub above : refills ≤ number
@@ -65,8 +65,7 @@ module _ (caller state : ℕ) (rekeys : ℕ → Option (ℕ × ℕ)) where
   abbrev pub MayHold : NamedState → KeyName → Type 0
   MayHold s k = (s.key ≡ Some k) ⊎ IsLater s.place s.refills k
 
-  -- IsLater holds neither for the name of the state's key nor for the name of the batch's key, and these two names
-  -- differ
+  -- the state's key and the batch's key have different names, and IsLater holds for neither name
   pub record KeysApart (s : NamedState) : Type 0 where
     pub key : (k : KeyName) → s.key ≡ Some k → IsLater s.place s.refills k → ⊥
     pub batch : (k : KeyName) → s.batch_key ≡ Some k → IsLater s.place s.refills k → ⊥
@@ -88,8 +87,8 @@ module _ (caller state : ℕ) (rekeys : ℕ → Option (ℕ × ℕ)) where
   later_next : (s : NamedState) (k : KeyName) → IsLater (suc s.place) s.refills k → IsLater s.place s.refills k
   later_next s k l = later_less s.place s.refills s.refills k (omega arith) l
 
-  -- if k is the name of the read that the rekey at the next place takes, IsLater holds for k; below, the same for the
-  -- key that a refill keeps
+  -- let the entry at the next place be a rekey. IsLater holds for the name of the read that the rekey takes. Below, the
+  -- same for the key that a refill keeps
   taken_here : (s : NamedState) (cpu cpu_place : ℕ) (k : KeyName) → rekeys s.place ≡ Some (cpu, cpu_place) →
       Call (CpuLane cpu) cpu_place ≡ k →
       IsLater s.place s.refills k

@@ -1,4 +1,5 @@
--- Lemmas about lists of uses: joined lists, lists by number, and uses of keys that may have no name.
+-- Lemmas about lists of uses: joined lists, a list for each number below a bound, and uses of keys that may have no
+-- name.
 use Rattle.std.proofs.Common.{◌≡◌, ℕ, zero, suc, ◌+◌, ◌≤◌, ◌<◌, Bool, true, false, List, [], ◌∷◌, ◌++◌, ◌⊎◌, inl, inr, refl, ap, arith, Some, None, Option, nat_lt}
 use Rattle.std.specs.Prelude.{if◌then◌else◌}
 use Rattle.std.specs.List.{flat_map, range_with_len}
@@ -78,7 +79,7 @@ Disjoint-three u v w uv uw vw = (
   Disjoint-two v w vw,
 )
 
--- if the uses of each named key are disjoint, so are those of a key that may have no name
+-- if the uses of each named key are disjoint, so are the uses of a key that may have no name
 pub named_uses_disjoint : (o : Option KeyName) (f : KeyName → List Use) → ((k : KeyName) → Disjoint (f k)) →
     Disjoint (named_uses o f)
 named_uses_disjoint None f d = tt

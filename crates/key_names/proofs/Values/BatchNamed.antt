@@ -1,5 +1,5 @@
 -- A copy out of a vgetrandom state serves the bytes of the named spans that the copy's entries serve. If the batch
--- serves a vgetrandom call, the call's last entries serve the spans with these bytes.
+-- serves a vgetrandom call, the call's bytes are the bytes of the named spans that the call's last entries serve.
 use Rattle.std.proofs.Common.{◌≡◌, ℕ, zero, suc, ◌+◌, ◌-◌, ◌*◌, min, ◌≤◌, Bool, true, false, List, [], ◌∷◌, ◌++◌, inl, inr, refl, sym, subst, ap, ◌∙◌, arith, Some, None, Option, take, drop, append-nil, append_assoc}
 use Rattle.std.specs.Prelude.{if◌then◌else◌}
 use Rattle.std.specs.List.{fold}
@@ -206,8 +206,8 @@ module _ (lists : Lists) (caller k : ℕ) where
       ∙ served_append lists (entry_uses x.named xs) (entry_uses (fold (state_step caller k) x.named xs) ys)
       ∙ ap (λ t. bytes_of x xs ++ served_in lists (entry_uses t ys)) (sym (named_is x xs))
 
-  -- if NamesTell holds after each prefix of an attempt's entries, and the attempt held, then it copied the bytes that
-  -- its entries serve
+  -- if NamesTell holds after each prefix of an attempt's entries, and the attempt held, then the attempt copied the
+  -- bytes that its entries serve
   abbrev pub AttemptNamed : Both → Attempt → Type 0
   AttemptNamed x attempt = Fronts x attempt.entries → attempt.end ≡ holds → attempt.out ≡ bytes_of x attempt.entries
 
@@ -356,7 +356,7 @@ module _ (lists : Lists) (caller k : ℕ) where
     pub bytes_are : out ≡ bytes_of (after x earlier) last
 
   -- if NamesTell holds after each prefix of a call's entries, and the batch served the call, then the call's last
-  -- entries serve its bytes
+  -- entries serve the bytes that the call gave
   abbrev pub OutcomeNamed : Both → Outcome → Type 0
   OutcomeNamed x outcome = Fronts x outcome.entries → (out : List ℕ) → outcome.ending ≡ by_batch out →
       LastServes x outcome.entries out

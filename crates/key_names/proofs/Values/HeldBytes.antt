@@ -25,7 +25,7 @@ use Rattle.key_names.specs.Lanes.LawfulList.{LawfulFrom}
 use Rattle.key_names.specs.declared.entries.BaseEntry.{BaseEntry}
 use Rattle.key_names.specs.Lanes.Book.{Lists, cpu_list, state_list, ForwardLawful, LawfulStates}
 
--- a keystream without its first n bytes is the keystream from n bytes later on
+-- a piece of a keystream without its first `n` bytes is the piece that begins `n` bytes later
 keystream-drop : (key : List ℕ) (from n len : ℕ) → drop n (keystream key from len) ≡ keystream key (from + n) (len - n)
 keystream-drop key from zero len = let p : from ≡ from + 0 = omega arith in let q : len ≡ len - 0 = omega arith in
     ap (λ f. keystream key f len) p ∙ ap (keystream key (from + 0)) q

@@ -1,4 +1,4 @@
--- After each entry of its list, the key of the base or of a CPU has the value of its name.
+-- After each entry of the base's list, the base's key has the value of its name. The same is true of each CPU.
 use Rattle.std.proofs.Common.{◌≡◌, ℕ, zero, suc, ◌+◌, false, List, [], ◌∷◌, ◌++◌, inl, inr, refl, sym, subst, ap, ◌∙◌, arith, Some, None, Option, length, take, append_assoc}
 use Rattle.std.specs.Prelude.{slice_get, option_and_then}
 use Rattle.std.specs.List.{fold}
@@ -57,7 +57,7 @@ abbrev pub BaseNamed : Lists → List BaseEntry → Type 0
 BaseNamed lists front = (k : KeyName) → (base_after front).key ≡ Some k →
     value_of lists k ≡ base_value_after lists.pool front
 
--- if the base's key after `front` has the value of its name, so has the key in use at the next entry `e`
+-- if the base's key after `front` has the value of its name, so does the key in use at the next entry `e`
 base_in_use_named : (lists : Lists) (front : List BaseEntry) (e : BaseEntry) → BaseNamed lists front →
     (k : KeyName) → base_key_in_use e (base_after front).key ≡ Some k →
     value_of lists k ≡ base_value_in_use lists.pool e (base_value_after lists.pool front)

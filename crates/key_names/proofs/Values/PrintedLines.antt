@@ -138,8 +138,8 @@ module _ (lists : Lists) (named : VisitsServeNamed lists) where
   place_named BaseLane place free = base_place place (slice_get lists.base place) refl
   place_named (CpuLane c) place free = cpu_place c place (slice_get (cpu_list lists c) place) refl free
 
-  -- the bytes that `steps` serve are those of the named spans of their last visit, unless a vgetrandom state takes this
-  -- visit's read as its key
+  -- `steps` serve the bytes of the named spans of their last visit, unless a vgetrandom state takes this visit's read
+  -- as its key
   served_named : (steps : List Step) → IsFree lists (effects_of lists steps) →
       served_bytes (effects_of lists steps) ≡ served_in lists (origins_uses lists (last_origin steps))
   served_named [] free = refl
@@ -149,8 +149,8 @@ module _ (lists : Lists) (named : VisitsServeNamed lists) where
   served_named (Look g ∷ next ∷ steps) free = served_named (next ∷ steps) free
   served_named (Marked mark ∷ next ∷ steps) free = served_named (next ∷ steps) free
 
-  -- if a line shows the bytes that its last visit serves, and no vgetrandom state takes this visit's read as its key,
-  -- then `Prints` holds for the line
+  -- let a line show the bytes that its last visit serves, and let no vgetrandom state take this visit's read as its
+  -- key. Then `Prints` holds for the line
   pub prints_visit : (own : StateEntries) (line : SeenLine) (effects : List Effect) → effects_of lists line.steps ≡ effects →
       line.shown ≡ bytes_or_none (served_bytes effects) → IsFree lists (effects_of lists line.steps) → Prints lists own line
   prints_visit own line effects is shown free = (

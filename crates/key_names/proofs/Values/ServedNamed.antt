@@ -36,8 +36,8 @@ use Rattle.key_names.specs.Keys.ServedNamed.{cpu_place_uses, LawfulServesNamed}
 use Rattle.key_names.proofs.Values.Named.{cpu_key_at, cpu_key_named, every_front}
 use Rattle.key_names.proofs.Values.HeldBytes.{entry_after, front_of}
 
--- let `key` name the key in use, and `call` the key that bytes 32 to 64 of its keystream make. Then a read serves the
--- bytes of its named spans
+-- let `key` name the key in use, and `call` the key that bytes 32 to 64 of that key's keystream make. Then a read
+-- serves the bytes of its named spans
 module _ (lists : Lists) (key call : KeyName) (used : List ℕ) (is : value_of lists key ≡ used)
     (next : value_of lists call ≡ keystream used 32 32) where
   user_named : (n : ℕ) (b : Bool) →
@@ -64,7 +64,7 @@ place_at place step next s (x ∷ xs) (suc i) e is =
     place_at place step next (step s x) xs i e is in
     let q : place (step s x) ≡ suc (place s) = next s x in omega arith
 
--- if the base is past the phase empty, its key has a name
+-- if the base is past the phase `empty`, its key has a name
 abbrev BaseKeyed : BaseState → Type 0
 BaseKeyed s = (s.phase ≡ empty → ⊥) → HasName s.key
 
@@ -151,7 +151,7 @@ module _ (lists : Lists) (lawful : LawfulBase lists.pool lists.base) where
   base_visit_named i Stall is = refl
   base_visit_named i Unstall is = refl
 
--- the fill f was made from the key in use at its place, and this key has a name
+-- the fill `f` was made from the key in use at the fill's place, and this key has a name
 module _ (lists : Lists) (c : ℕ) where
   record FillOk (f : Fill) : Type 0 where
     used_key : cpu_key_at lists c f.place ≡ f.key

@@ -1,4 +1,4 @@
--- After each entry of its list, the key of a vgetrandom state has the value of its name.
+-- After each entry of a vgetrandom state's list, the state's key has the value of its name.
 use Rattle.std.proofs.Common.{◌≡◌, ℕ, suc, ◌+◌, List, [], ◌∷◌, ◌++◌, refl, sym, ap, ◌∙◌, arith, Some, None, Option, take}
 use Rattle.std.specs.List.{fold}
 use Rattle.std.proofs.lemmas.List.Sums.{fold-append}
@@ -35,7 +35,7 @@ module _ (lists : Lists) (caller state : ℕ) where
   refills_after s (Serve pos len ∷ es) = refills_after (state_step caller state s (Serve pos len)) es
   refills_after s (Wipe ∷ es) = refills_after (state_step caller state s Wipe) es
 
-  -- if a refill comes after `front`, the value of the key that it keeps is made from the value of the key after `front`
+  -- if a refill comes after `front`, the key that the refill keeps gets its value from the key after `front`
   refill_value_at : (v : List ℕ) (front : List VEntry) (from : ℕ) (rest : List VEntry) →
       refill_value_from lists v (refills_in front) ((front ++ Refill from ∷ []) ++ rest) ≡ refill_value
       (fold (state_value_step lists) v front) from

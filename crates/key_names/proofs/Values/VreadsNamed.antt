@@ -1,4 +1,5 @@
--- If the batch served a vread, its line shows the bytes of the named spans that the entries of the last attempt serve.
+-- If the batch served a vread, the vread's line shows the bytes of named spans. The entries of the last attempt serve
+-- these spans.
 use Rattle.std.proofs.Common.{◌≡◌, ℕ, zero, suc, ◌<◌, ◌≤◌, Bool, true, false, List, [], ◌∷◌, ◌++◌, refl, sym, subst, ap, ◌∙◌, arith, length, take, append_assoc}
 use Rattle.std.specs.Prelude.{◌==◌, not, ⊤, if◌then◌else◌}
 use Rattle.std.specs.List.{fold}
@@ -52,7 +53,7 @@ module _ (lists : Lists) (caller k : ℕ) (below : k < 16) where
   abbrev Holds : Both → VgetrandomState → Type 0
   Holds = replay.Holds lists caller k
 
-  -- how a vread ended: it shows no data, the bytes that its last entries serve, or the answer of a system call
+  -- how a vread ended. Its line shows no data, the bytes that its last entries serve, or the answer of a system call
   pub data VreadEnds (n flags : ℕ) (acts : List BoundAct) (x : Both) (m : CallMeaning) : Type 0 where
     showed_none : m.own.shown ≡ no_data → VreadEnds n flags acts x m
     showed_batch : (out : List ℕ) → m.own.shown ≡ bytes_or_none out → batch.LastServes lists caller k x m.entries out →
@@ -111,7 +112,8 @@ module _ (lists : Lists) (caller k : ℕ) (below : k < 16) where
       (λ no by. vgetrandom_ends x n flags acts m h there means.looks fronts by)
       means.done_by
 
-  -- if the call is a vread on state k, VreadEnds holds for it, with `x` as the replay of the entries before it
+  -- if the call is a vread on state `k`, VreadEnds holds for the vread, and `x` is the replay of the entries before the
+  -- vread
   abbrev pub CallEnds : Both → Call → CallMeaning → Type 0
   CallEnds x (alone event line) m = ⊤
   CallEnds x (vread_call n flags line acts) m = m.before.current ≡ k → VreadEnds n flags acts x m

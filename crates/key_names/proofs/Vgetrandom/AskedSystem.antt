@@ -84,7 +84,7 @@ module _ (answer : SystemAnswer) where
       look.goes_on))
       is
 
-  -- the effects of the line end with those of the system call
+  -- the effects of the line end with the effects of the system call
   record ShowsAsked (effects : List Effect) : Type 0 where
     before : List Effect
     call : List Effect

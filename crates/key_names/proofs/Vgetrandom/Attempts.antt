@@ -1,5 +1,5 @@
--- The host's steps of two attempts, and the results: an attempt on a state whose key is current, and one that reads a
--- key.
+-- The host's steps and the result of two attempts: an attempt on a state whose key is current, and an attempt that
+-- reads a key.
 use Rattle.std.proofs.Common.{◌≡◌, ℕ, Bool, true, false, Option, List, [], ◌∷◌, ◌++◌, refl, sym, subst}
 use Rattle.std.specs.Prelude.{◌==◌, MatchBool, if◌then◌else◌}
 use Rattle.key_names.specs.declared.point.Point.TheVariants.{Start, Written, Serve, End}

@@ -24,8 +24,8 @@ copy_keeps_generation s c n = go (has_left s n)
     go true = refl
     go false = refl
 
--- the state `s` matches its list, after which the names are `t`: the position is the same, any entry may come next, and
--- the served bytes are 0
+-- the state `s` matches its list. Let `t` be the names after the list: they have the same position as `s`, any entry
+-- may come next, and the served bytes of `s` are 0
 pub record Settled (t : NamedState) (s : VgetrandomState) : Type 0 where
   pub same_pos : t.pos ≡ s.pos
   pub within : s.pos ≤ 96

@@ -293,8 +293,8 @@ module _ (c p : ℕ) where
   answered_takes None ds = last_takes ds
   answered_takes (Some errno) ds = omega arith
 
-  -- if the effects of a line show the host's steps, the steps contain the read at place `p` of CPU `c` at most as often
-  -- as the effects contain the visit there
+  -- let the effects of a line show the host's steps. The steps contain the read at place `p` of CPU `c` at most as
+  -- often as the effects contain the visit at that place
   pub shown_takes : (set : Setting) (steps : List HostStep) (ds : List Effect) → Shows set steps ds →
       step_takes steps ≤ effect_takes ds
   shown_takes set [] ds shows = omega arith

@@ -42,7 +42,7 @@ KeyIs lists (failed errno) = ⊥
 KeyIs lists (read bytes None) = ⊥
 KeyIs lists (read bytes (Some at)) = bytes ≡ cpu_call_value lists at.cpu at.place
 
--- each generation that the steps publish is above 0, and each key that they read is one that a CPU's visit handed over
+-- each generation that the steps publish is above 0, and a CPU's visit handed over each key that the steps read
 abbrev pub Good : Lists → List HostStep → Type 0
 Good lists [] = ⊤
 Good lists (publishes g ∷ steps) = (1 ≤ g) × Good lists steps

@@ -1,5 +1,5 @@
--- How a vread of a transcript ended. If the batch served the vread, its line shows the bytes of named spans. Entries of
--- the vread's state serve these spans.
+-- How a vread of a transcript ended. If the batch served the vread, the vread's line shows the bytes of named spans.
+-- Entries of the vread's state serve these spans.
 use Rattle.std.specs.Prelude.{ℕ, ◌≡◌, ◌<◌, Some, List, ◌++◌, take, slice_get}
 use Rattle.key_names.specs.declared.entries.VEntry.{VEntry}
 use Rattle.key_names.specs.Lanes.Book.{Lists}
@@ -17,14 +17,14 @@ abbrev pub entry_bytes : Lists → ℕ → ℕ → List VEntry → List VEntry �
 entry_bytes lists caller k front es =
     served_in lists (uses_from state_uses_at (state_step caller k) (state_after caller k front) es)
 
--- the last of the entries `es`, those of the attempt that held, serve the bytes `out`
+-- the last of the entries `es` serve the bytes `out`. These last entries come from the attempt that held
 pub record LastServe (lists : Lists) (caller k : ℕ) (front es : List VEntry) (out : List ℕ) : Type 0 where
   pub earlier : List VEntry
   pub last : List VEntry
   pub entries_are : es ≡ earlier ++ last
   pub bytes_are : out ≡ entry_bytes lists caller k (front ++ earlier) last
 
--- how a vread ended: it shows no data, the bytes that its last entries serve, or the answer of a system call
+-- how a vread ended. Its line shows no data, the bytes that its last entries serve, or the answer of a system call
 pub data VreadEnd (lists : Lists) (caller k : ℕ) (front : List VEntry) (n flags : ℕ) (acts : List BoundAct)
     (m : CallMeaning) : Type 0 where
   showed_none : m.own.shown ≡ no_data → VreadEnd lists caller k front n flags acts m
