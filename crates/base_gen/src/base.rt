@@ -185,7 +185,7 @@ impl Base {
 }
 
 /// The milliseconds until the next reseed (`crng_reseed_interval`). While the system is young, the interval is half the
-/// system's age, in whole seconds, and at least one second. From the first reseed at 120 seconds or later on, the
+/// system's age, in whole seconds, and at least one second. From the first reseed at an age of 120 seconds or more, the
 /// interval is always a minute.
 fn reseed_interval(early_boot: &mut bool, now: u64) -> u64
     ensures early_boot { early_boot.new ≡ early_boot_after (Some now) early_boot.old }

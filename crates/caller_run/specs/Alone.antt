@@ -40,7 +40,7 @@ abbrev pub CalledOnce : Lanes → Event → Caller → Caller → Reply → List
 CalledOnce t (Vread len flags) c d said served steps = StateRead t len flags c d said served steps [] []
 CalledOnce t event c d said served steps = Called t event c d said served steps
 
--- `lines`, as if the run had kept them, with memory for the lines of the events `rest` and for a last line
+-- `lines` as if the run had kept them, with room left for the lines of the events `rest` and for a last line
 abbrev pub as_kept : List SeenLine → List Event → Gathered
 as_kept lines rest = record {
   lines = lines;
@@ -51,7 +51,8 @@ as_kept lines rest = record {
   step_room = 20 * (length rest + 1);
 }
 
--- the caller has made `lines`, and can go on with the events `rest` if `served` bytes can be served at once
+-- the caller has made `lines`. With a buffer of `served` bytes it can go on with the events `rest`, which include no
+-- act and no fork
 pub record GoesAlone (t : Lanes) (served : ℕ) (begun : Start) (events rest : List Event) (c : Caller)
     (lines : List SeenLine) : Type 0 where
   pub inside : ℕ

@@ -91,8 +91,8 @@ pub record HasLeft (t : Lanes) (c d : Caller) (steps : List Step) : Type 0 where
   pub reached : floor (view d.pass) ≤ (model d.pass 1).base.generation
   pub did : Makes (BaseOnly End) c.set (moment c.pass []) (moment d.pass steps)
 
--- the caller, which was `c` and is now `d`, read `n` bytes out of its current state with these flags. The requests
--- `asks` are those of the acts inside, and `zs` are the acts' outcomes
+-- the caller, which was `c` and is now `d`, read `n` bytes out of its current state with these flags. `asks` are the
+-- requests of the acts inside the read, and `zs` are the acts' outcomes
 pub record StateRead (t : Lanes) (n flags : ℕ) (c d : Caller) (said : Reply) (served : List ℕ) (steps : List Step)
     (asks : List Ask) (zs : List ActOutcome) : Type 0 where
   pub has : HoldsLanes t d.set.caller [] d.pass

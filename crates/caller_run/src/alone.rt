@@ -82,8 +82,8 @@ impl LoneRun {
     }
 
     /// The run of a whole script on a new table, before its first event. Returns `None` if and only if the script has
-    /// several callers or an act inside a vgetrandom call; the line of such an act is made twice. This function takes
-    /// all memory of the run.
+    /// several callers or an act inside a vgetrandom call. The line of such an act is made twice, but this run keeps no
+    /// line. This function takes all memory of the run.
     ///
     /// # Errors
     ///

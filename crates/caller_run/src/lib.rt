@@ -2,9 +2,9 @@
 //!
 //! [`run_all`] runs caller 0 from its start to its end, in a thread. A child that it forks runs in a thread of its own,
 //! or in its parent's thread if no thread can be made ([`run_here`]). A child can fork children in turn. A parent joins
-//! its children after its own last visit. All memory of a run is taken first, as a [`Plan`]. Only threads take memory
-//! later; a thread's stack has the size that the caller and the callers that it forks need. The only caller of a script
-//! can also be handed its events one by one ([`LoneRun`]); then no line is kept.
+//! its children after its own last visit. All memory of a run is taken first, as a [`Plan`]. Later only the start of a
+//! thread takes memory. A thread's stack has the size that its caller needs, with all callers that this caller forks.
+//! The only caller of a script can also be handed its events one by one ([`LoneRun`]); then no line is kept.
 //!
 //! The clauses of `rng_core` describe each call and its steps. Those of `lane_table` describe a pass's view of the
 //! lanes, and how passes are split off, lent and joined. This crate uses only these clauses: no code here looks into a

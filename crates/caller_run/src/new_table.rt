@@ -49,7 +49,7 @@ fn need_stack(alloc: Global, script: &Script) -> Result<(), AllocError> {
 ///
 /// # Errors
 ///
-/// Those of [`run_on_new_table`].
+/// The same errors as [`run_on_new_table`].
 pub fn run_new<R: Threads + Wait + Sync, G: Gate>(
     rt: &R,
     alloc: Global,

@@ -43,7 +43,7 @@ abbrev pub Serves : ℕ → BatchValue → List ℕ → BatchValue → Type 0
 Serves width b entry after = (entry ≡ next_bytes width b) × (after ≡ after_serving width b)
 
 -- the batch `b` serves the integer `entry` at generation `g`, and then is `after`. If the batch has to be filled first,
--- the new bytes are some that `Fills` allows
+-- `Fills` holds for the new bytes
 abbrev pub ServesAt : ℕ → ℕ → (List ℕ → Type 0) → BatchValue → List ℕ → BatchValue → Type 0
 ServesAt width g Fills b entry after =
     MatchBool (wants g width b) ((bytes : List ℕ) × Fills bytes × Serves width (filled bytes g) entry after)

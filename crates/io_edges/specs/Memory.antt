@@ -3,7 +3,7 @@ use Rattle.std.specs.Prelude.{ℕ, ◌-◌, ◌≡◌, ◌==◌, ◌<◌, ◌⊎
 use Rattle.std.specs.List.{list_any}
 use Rattle.io_edges.specs.Faults.{next_count}
 
--- whether the call with the given number fails: `fails` lists the number
+-- whether `fails` lists the number; if so, the call with this number fails
 abbrev pub is_listed : ℕ → List ℕ → Bool
 is_listed number fails = list_any (λ k. k == number) fails
 

@@ -22,8 +22,8 @@ wider Of Wide is NoMemory a b e = e
 wider Of Wide is Usage a b e = e
 wider Of Wide is ReadFault a b e = e
 
--- `Of` allows no answer to an input above the limit except a refusal, and the same refusals for all inputs above the
--- limit
+-- the only answers that `Of` allows to an input above the limit are refusals. It allows the same refusals for all
+-- inputs above the limit
 pub record IsLimited (limit : ℕ) (Of : List ℕ → Status → List ℕ → Type 0) : Type 0 where
   pub done : (input output : List ℕ) → Of input Done output → length input ≤ limit
   pub no : (input output : List ℕ) → Of input No output → length input ≤ limit

@@ -1,4 +1,4 @@
--- What a command leaves that reads a script, or a script with a transcript after it.
+-- The effects of a command that reads a script, or a script with a transcript after it.
 use Rattle.std.proofs.Common.{ℕ, ◌+◌, List, Option, sym, subst}
 use Rattle.io_edges.specs.Pieces.{ConsumesUpTo}
 use Rattle.tool_ends.specs.Pairs.{GivesNone, RefusalEnds, RefusalOf}

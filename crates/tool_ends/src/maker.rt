@@ -1,4 +1,4 @@
-//! The maker of a transcript, with which the text after a script is compared before it is read.
+//! Makers of transcripts. The text after a script is compared with the text of the transcript that a maker made.
 ghost use Rattle.std.specs.Prelude.{◌≡◌, ⊤, IfSome, None};
 ghost use Rattle.key_names.specs.Texts.ScriptGrammar.{WellFormed};
 

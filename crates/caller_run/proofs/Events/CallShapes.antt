@@ -40,8 +40,8 @@ pub record Rekeys (steps : List HostStep) : Type 0 where
   pub steps_are : steps ≡ system_call 32 0 (read key visit) ∷ rest
   pub copies : Copies rest
 
--- `steps` are those of a call after the point Written of its first attempt, if the read of a new key failed: that
--- system call, and a last one
+-- `steps` are those of a call after the point Written of its first attempt, if the read of a new key failed: the failed
+-- system call, and a last system call
 pub record Fails (steps : List HostStep) : Type 0 where
   pub errno : Errno
   pub n : ℕ

@@ -158,8 +158,8 @@ module _ (lists : Lists) where
       let no : true ≡ false = sym (visit_at mark.lane mark.place)
       ∙ ap (λ (l : List Effect). elim l as (λ _. Bool) [ [] ↦ true | d ∷ ds ↦ is_visit d ]) e in absurd (cc no)
 
--- if a generation was found before a system call for a new key, the call reads from the CPU, so its steps are those for
--- a new key (`IsKeySteps`)
+-- if a generation was found before a system call for a new key, the call reads from the CPU, so `IsKeySteps` holds for
+-- the steps of the call
 pub key_call : (set : Setting) (answer : SystemAnswer) (l m : Moment)
     (k : Makes (SystemCall (setting_of set) 32 0 answer) set l m)
     (lanes : ℕ) (visits : ℕ → List Visit) → Continues lanes m.view visits → 1 ≤ floor l.view →

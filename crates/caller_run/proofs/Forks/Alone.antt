@@ -104,7 +104,7 @@ event_goes (Inside point act) d said served steps k on g = absurd g.once.0
 event_goes (Fork child) d said served steps k on g = absurd g.once.0
 event_goes event d said served steps k on g = call_goes tt k on g
 
--- the event's call left the caller's setting as it was, and its steps and its data fit a line
+-- the event's call left the caller's setting as it was, and the steps and the data of the call fit a line
 pub record HasCalled (event : Event) (c d : Caller) (said : Reply) (steps : List Step) : Type 0 where
   pub set : d.set ≡ c.set
   pub steps_fit : AllByRecursion StepFits steps

@@ -35,7 +35,7 @@ ran_end script x e same = record {
 }
 
 -- a fork: u is the view of the parent's pass after the fork's visit, and z is its view when the parent goes on. If
--- `RanOn` holds from z on, and `RanSo` holds for the child, then `RanOn` holds for the whole
+-- `RanOn` holds from z on, and `RanSo` holds for the child, then `RanOn` holds from x on
 pub ran_fork : (script : Script) (x u z e w d : View) (kid : Start) (starts : List Start) (xs : List Run) (own : Run)
     (ys : List Run) → SameHalves x u → SameHalves (halved u) z → RanOn script z e w starts xs →
     kid.view ≡ split_off u → RanSo script kid d own ys → length own.end.lanes ≡ length e.lanes →

@@ -79,7 +79,7 @@ same_lane (CpuLane c) PoolLane = grind (arith, nat_tests)
 same_lane (CpuLane c) BaseLane = grind (arith, nat_tests)
 same_lane (CpuLane c) (CpuLane d) = same_lane_number c d
 
--- suppose that place p of a lane has the weight w p
+-- suppose that place p of a lane has the weight `w p`
 module _ (w : ℕ → ℕ) where
   abbrev pub place_of : Mark → ℕ
   place_of mark = mark.place

@@ -32,8 +32,8 @@ module _ (set : Setting) (asks : List Ask) where
   pub kept_at : (q p : Point) (s t : Spot) → Apart p q → Reached set asks p s t → Kept q s t
   kept_at q p s t other k = record { items = (k.elsewhere q other).0; untouched = (k.elsewhere q other).1 }
 
-  -- from s to t a call reached points: it made two looks, Start and Written, the steps for a new key, Serve and End,
-  -- and the last steps
+  -- from s to t a call reached its points. In this order, it made two looks, passed Start and Written, made the steps
+  -- for a new key, passed Serve and End, and made the last steps
   pub record Path (s t : Spot) : Type 0 where
     pub looked : Spot
     pub started : Spot

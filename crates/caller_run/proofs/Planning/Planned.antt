@@ -34,8 +34,8 @@ pub record PreparedSoFar (callers : List (List Event)) (c : ℕ) (rest : List Ev
   pub all : list_at callers c ≡ rest ++ done
   pub ready : ArePrepared callers g (forks done)
 
--- of the lines `all`, those of the rooms in g are still in these rooms, and the others are in the slots of their
--- callers
+-- `all` are the lines to put into the slots, with their callers' numbers. The lines of the rooms in g are still in
+-- these rooms, and the other lines are in their callers' slots
 pub record GatheredSoFar (before now : List Gathered) (all : List (ℕ × List SeenLine)) (g : ForkTree) : Type 0 where
   pub many : length now ≡ length before
   pub left : put_in (lines_in now) (emitted_in g) ≡ put_in (lines_in before) all

@@ -38,7 +38,7 @@ pub(crate) fn is_silent(event: &Event) -> bool
 }
 
 /// How many bytes the line of an event shows at most.
-// Inlined, since each event calls it twice.
+// Inlined, since it is called up to twice for each event.
 #[inline(always)]
 pub(crate) fn most_shown(event: &Event) -> u32
     ensures { result ≡ most_shown event.now }
@@ -105,7 +105,8 @@ impl Needs {
 }
 
 impl Log {
-    /// A log with room for the lines of `events` events, for `shown` bytes in all of them, and for a last line.
+    /// A log with room for the lines of `events` events and for a last line, and for `shown` bytes in all these lines
+    /// together.
     ///
     /// # Errors
     ///
