@@ -78,8 +78,8 @@ pub record IsGoing (script : Script) (rest : List Event) (run : LoneRun) (lines 
   pub whole : (view pass).share ≡ 2 ^ (view pass).halvings
   pub goes : GoesAlone run.lanes (vec_len run.served) (first_start pass) events rest run.caller lines
 
--- the caller has made the events `made`. If a well-formed script has `cpus` CPUs, one caller, no act and no fork, and
--- its events begin with `made`, the run can go on with the events that follow
+-- the caller has made the events `made`. Suppose that a well-formed script has `cpus` CPUs and one caller, whose events
+-- begin with `made` and include no act and no fork. Then the run can go on with the events that follow
 abbrev pub HasMade : ℕ → List Event → LoneRun → List SeenLine → Type 0
 HasMade cpus made run lines =
     (script : Script) (rest : List Event) → WellFormed script → IsEmittedByOne script → script.cpus ≡ cpus

@@ -104,7 +104,7 @@ pub record CanRun (t : Lanes) (script : Script) (set : Setting) (p : Pass) (a : 
   pub new : IsNewBuffers a.buffers (list_at script.callers a.caller)
   pub ready : ArePrepared script.callers a.kids (forks (list_at script.callers a.caller))
 
--- a running caller can make these events, and the rooms of the callers that they fork are new
+-- a running caller can make these events, and the rooms of the callers that the events fork are new
 pub record CanAdvanceOn (t : Lanes) (script : Script) (events : List Event) (w : RunningCaller) : Type 0 where
   pub can : CanAdvanceIn t w events
   pub well : WellFormed script

@@ -36,7 +36,7 @@ pub struct LoneRun {
     pub(crate) recorded: EmittedLine,
 }
 
-// The largest number of bytes that a line of these events shows, or `None` if one of them is an act or a fork.
+// The most bytes that a line of these events can show, or `None` if one of the events is an act or a fork.
 fn longest_line(events: &[Event]) -> Option<u32>
     ensures none { result ≡ None → All IsEmittedOnce events.now → ⊥ }
     ensures once { IfSome result (λ _. All IsEmittedOnce events.now) }

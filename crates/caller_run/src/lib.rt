@@ -6,9 +6,9 @@
 //! thread takes memory. A thread's stack has the size that its caller needs, with all callers that this caller forks.
 //! The only caller of a script can also be handed its events one by one ([`LoneRun`]); then no line is kept.
 //!
-//! The clauses of `rng_core` describe each call and its steps. Those of `lane_table` describe a pass's view of the
-//! lanes, and how passes are split off, lent and joined. This crate uses only these clauses: no code here looks into a
-//! lane.
+//! The clauses of `rng_core` describe each call and its steps. The clauses of `lane_table` describe a pass's view of
+//! the lanes, and how passes are split off, lent and joined. This crate uses only these clauses: no code here looks
+//! into a lane.
 //!
 //! # Example
 //!
@@ -43,7 +43,7 @@
 //! # Tested only
 //!
 //! A child that [`run_here`] runs makes its visits between the two visits by which its parent stops running and goes
-//! on: `run_tests` of `test_core`. Two callers are inside their reads at once: the tests of `rng_tool`.
+//! on: `run_tests` of `test_core`. Two callers can be inside their reads at once: the tests of `rng_tool`.
 #![tactic(auto)]
 
 mod alone;

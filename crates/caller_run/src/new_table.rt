@@ -16,7 +16,8 @@ use std::sync::Wait;
 use std::thread::Threads;
 use transcript_text::Transcript;
 
-/// Runs all callers of a script on a new table. All memory but that of threads is taken before the first event.
+/// Runs all callers of a script on a new table. All memory except the memory of threads is taken before the first
+/// event.
 ///
 /// # Errors
 ///

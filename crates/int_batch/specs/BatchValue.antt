@@ -19,7 +19,7 @@ start width = record { bytes = replicate 96 0; position = 96 / width; generation
 abbrev pub last_fill : BatchValue → Fill
 last_fill b = record { key = None; place = 0; count = b.position; look = b.generation }
 
--- whether the batch has to be filled before it serves an integer at generation g
+-- whether the batch has to be filled before it serves an integer at generation `g`
 abbrev pub wants : ℕ → ℕ → BatchValue → Bool
 wants g width b = must_fill g width (Some (last_fill b))
 

@@ -43,7 +43,8 @@ pub record SinkState : Type 0 where
   pub calls : ℕ
   pub faults : ℕ
 
--- the sink's next put, of `piece`, fails: the number of the put is listed, or `piece` has bytes and the sink no room
+-- the sink's next put, of `piece`, fails: the number of the put is listed, or `piece` has bytes and the sink has no
+-- room
 abbrev pub PutFails : SinkState → List ℕ → Type 0
 PutFails s piece = IsTrue (is_listed (next_count s.calls) s.fails) ⊎ ((0 < length piece) × (s.room ≡ length s.held))
 

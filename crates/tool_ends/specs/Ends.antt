@@ -1,4 +1,4 @@
--- The statuses with which a program ends, and what the sink got from a command that reads no input.
+-- The statuses with which a program ends, and the effects of a command that reads no input on the sink.
 use Rattle.std.specs.Prelude.{ℕ, ◌≡◌, ◌⊎◌, ⊤, List, Option}
 use Rattle.std.specs.Io.KnownBytes.{Appends, Keeps}
 use Rattle.io_edges.specs.Faults.{Rose}

@@ -1,5 +1,5 @@
-//! For the message of a refusal: a source that keeps the first bytes that were taken from it, and a sink that keeps the
-//! first bytes of the last piece that was put to it.
+//! A source that keeps the first bytes that were taken from it, and a sink that keeps the first bytes of the last piece
+//! that was put to it. Both are for the message of a refusal.
 ghost use Rattle.std.specs.Prelude.{◌≡◌, ◌<◌, ◌≤◌, ◌++◌, [], ℕ, List, length, take, IfOk, IfSome, IsSome, IsTrue, OnOk, OnErr};
 ghost use Rattle.std.specs.Io.{ReadsAtMost, WritesAtMost};
 ghost use Rattle.std.specs.Io.KnownBytes.{Keeps, Appends, Consumes, IsAtEnd};

@@ -93,8 +93,8 @@ module _ (n : ℕ) where
             ∙ ap end_of last.attempt_is;
       }
 
-  -- if `steps` are those of an attempt after its point Start, the first of `steps ++ more` that the caller makes itself
-  -- is a look
+  -- if `steps` are those of an attempt after its point Start, the first step of `steps ++ more` that the caller itself
+  -- makes is a look
   start_looks : (c published : ℕ) (s : VgetrandomState) (steps more : List HostStep) (attempt : Attempt) →
       FromStart n c published s steps attempt → LooksFirst (steps ++ more)
   start_looks c published s steps more attempt k = go (s.generation == published) k

@@ -66,7 +66,7 @@ module _ {t : Lanes} {m : ℕ} {begun : Start} {events rest : List Event} {c d e
         gone = gone_call is k on g.gone;
       }
 
-  -- if the only caller goes on and reads out of its current state, it goes on after this read
+  -- if the only caller goes on (`GoesAlone`) and reads out of its current state, it goes on after this read
   read_goes : {len flags : ℕ} → StateRead t len flags c d said served steps [] [] → GoesOn (Vread len flags) d e →
       GoesAlone t m begun events (Vread len flags ∷ rest) c lines →
       GoesAlone t m begun events rest e (lines ++ line_of d.set VreadWord served said steps ∷ [])

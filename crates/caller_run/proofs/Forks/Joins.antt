@@ -71,8 +71,8 @@ joined_nothing v = record {
   made = λ lane low. omega arith;
 }
 
--- at the end of the run `r`, in each lane, a sum over the places of the pass's own visits equals the sum over the
--- places of the marks in the lines of `r`
+-- the pass of the run `r` has made its last visit. In each lane, a sum over the places of its own visits equals the sum
+-- over the places of the marks in the lines of `r`
 pub record OwnPlaces (r : Run) : Type 0 where
   pub placed : (f : ℕ → ℕ) (lane : LaneId) → index_of lane < length r.end.lanes →
       sum_by f (at (index_of lane) r.end).places ≡ marked_by f lane r

@@ -58,7 +58,7 @@ no_late items acts e f =
     no_steps cut.0 cut.1 (items_at_point acts Serve) (items_at_point acts End) front e f
     ∙ ap (λ (l : List Item). front ++ l) (sym (rekey_whole (drop 2 items)))
 
--- if no act has steps, the steps of the vread are exactly those of its own line
+-- if no act has steps, the steps of the vread are exactly the steps of its own line
 pub own_items : (items : List Item) (acts : List BoundAct) → ((p : Point) → items_at_point acts p ≡ []) →
     vread_items items acts ≡ items
 own_items items acts none =

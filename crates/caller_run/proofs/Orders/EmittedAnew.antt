@@ -39,7 +39,7 @@ anew_front lines more (a ∷ asks) (l ∷ acts) recorded =
     ∙ anew_front (slice_set lines a.event l) more asks acts
     (subst (λ (n : ℕ). AreEmitted n asks) (sym (length-set lines a.event l)) recorded.1)
 
--- if the last line is that of the last waiting act, `emitted_anew` puts the act's new line there
+-- if the last line is the line of the last waiting act, `emitted_anew` puts the act's new line there
 pub anew_last : (lines : List SeenLine) (idle line : SeenLine) (asks : List Ask) (x : Ask) (acts : List SeenLine) →
     x.event ≡ length lines →
     AreEmitted (length lines) asks → length acts ≡ length asks →

@@ -1,4 +1,5 @@
--- In a vgetrandom call with acts inside, the caller's own steps and those of its acts have the order of `vread_items`.
+-- In a vgetrandom call with acts inside, the caller's own steps and the steps of its acts have the order of
+-- `vread_items`.
 use Rattle.std.proofs.Common.{◌≡◌, ◌⊎◌, inl, inr, List, [], ◌∷◌, ◌++◌, refl, sym, ap, ◌∙◌, subst}
 use Rattle.key_names.specs.declared.names.Step.{Step}
 use Rattle.key_names.specs.declared.point.Point.{Point}
@@ -69,8 +70,8 @@ module _ (set : Setting) (asks : List Ask) where
           ∙ ap (λ (l : List Item). l ++ c.rekey) (c.write.line ∙ c.start.line ∙ c.looks.line
           ∙ ap (λ (l : List Step). items_from set.event 0 l ++ c.first ∷ c.second ∷ []) empty))
 
-      -- if the acts at a point ran from u to v, and nothing before or after changed them, they made the steps that they
-      -- have at the end
+      -- suppose that the acts at a point ran from u to v, and that nothing before or after changed them. Then they made
+      -- the steps that they have at the end
       at_last : (p : Point) (u v : Spot) → Reached set asks p u v → Kept p s u → Kept p v t →
           Part set.caller (view_at u) (view_at v) (here p)
       at_last p u v k before after =

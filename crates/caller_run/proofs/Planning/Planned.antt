@@ -27,8 +27,8 @@ use Rattle.caller_run.proofs.Planning.Sums.{hit, hit_same}
 use Rattle.caller_run.proofs.Planning.Slots.{put_long, put_append}
 use Rattle.caller_run.proofs.Forks.WentOn.{above_number, few_events}
 
--- the rooms in g are those of the callers that the events `done` of caller c fork. The events `rest` come before
--- `done`, and the rooms of the callers that they fork are still to be made
+-- g has the rooms of the callers that caller c forks in its last events, `done`. The rooms of the callers that it forks
+-- in its earlier events, `rest`, are still to be made
 pub record PreparedSoFar (callers : List (List Event)) (c : ℕ) (rest : List Event) (g : ForkTree) : Type 0 where
   pub done : List Event
   pub all : list_at callers c ≡ rest ++ done

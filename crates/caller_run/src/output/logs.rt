@@ -26,7 +26,8 @@ pub(crate) struct Log {
     pub(crate) trace: Box<Trace>,
 }
 
-/// If true, the event is no act, forks no caller and shows no bytes. One test finds this for the most frequent kinds.
+/// If true, the event is no act, forks no caller and shows no bytes. This one test covers the most frequent kinds of
+/// such events.
 #[inline(always)]
 pub(crate) fn is_silent(event: &Event) -> bool
     ensures { OnTrue result (IsEmittedOnce event.now × (most_shown event.now ≡ 0)) }
@@ -68,7 +69,7 @@ fn read_inside(event: &Event) -> u32
     }
 }
 
-/// How many bytes the lines of some events need at most, and how many bytes the reads inside their vreads need.
+/// The most bytes that the lines of some events need, and the bytes that the reads inside the events' vreads need.
 #[derive(Clone, Copy)]
 pub(crate) struct Needs {
     /// The bytes of all lines.
