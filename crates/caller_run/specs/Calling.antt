@@ -47,7 +47,7 @@ pub record Seen (found : ℕ) (s : CallerState) : Type 0 where
   pub current : s.current < 16
   pub published : AllByRecursion (λ st. st.generation ≤ published_by found) s.states
 
--- `Seen` holds for the caller's states, with the generation that its pass has seen
+-- `Seen` holds for the caller's states, with the generation that the caller's pass has seen
 abbrev pub StatesConform : Caller → Type 0
 StatesConform c = Seen (floor (view c.pass)) (conform c)
 

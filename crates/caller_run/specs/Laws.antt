@@ -1,5 +1,5 @@
--- The law of a script with its callers: their calls, from the start of a table to its end, make a lawful transcript of
--- the script.
+-- The law of a script: the calls of its callers, from the start of a table to the table's end, make a lawful transcript
+-- of the script.
 use Rattle.std.specs.Prelude.{◌≡◌, ◌⊎◌, ℕ, ◌+◌, ◌<◌, ◌≤◌, List, [], ◌∷◌, map, length}
 use Rattle.std.specs.List.{AllByRecursion, sum_by}
 use Rattle.key_names.specs.declared.events.Event.{Event}

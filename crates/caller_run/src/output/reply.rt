@@ -62,7 +62,7 @@ impl Reply {
         Reply::done(LineData::Served)
     }
 
-    /// The reply of a call that was done, with the data of its line.
+    /// The reply of a call that was done, with the data of the call's line.
     pub(crate) fn done(shows: LineData) -> Reply
         ensures { result ≡ record { answer = Answer.Ok; shows = shows } }
     {
