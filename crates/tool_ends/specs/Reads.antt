@@ -10,7 +10,7 @@ use Rattle.tool_ends.specs.declared.status.Status.TheVariants.{Done, No, Usage, 
 abbrev pub SomeAnswer : (Status → List ℕ → Type 0) → List ℕ → Type 0
 SomeAnswer Of output = (status : Status) × IsAnswered status × Of status output
 
--- an output is right only if the status is Done and `Is` holds for the output
+-- an output is right exactly if the status is Done and `Is` holds for the output
 abbrev pub OnlyDone : (List ℕ → Type 0) → Status → List ℕ → Type 0
 OnlyDone Is Done output = Is output
 OnlyDone Is No output = ⊥
