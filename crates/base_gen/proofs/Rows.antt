@@ -21,8 +21,8 @@ pub key_in_use-root : (pool : List PoolEntry) (named : Option ℕ) (root key : L
 key_in_use-root pool None root key is = refl
 key_in_use-root pool (Some place) root key is = is place refl
 
--- if `root` is the root that `e` names, then `e` changes the base with the state `s` and the key `value` into the base
--- with the state and the key after `e`
+-- suppose that `root` is the root that `e` names. Then `e` changes the base with the state `s` and the key `value` into
+-- the base with the state and the key after `e`
 pub after_entry-base_at : (pool : List PoolEntry) (s : BaseState) (value root : List ℕ) (e : BaseEntry) →
     HandsRoot pool e root → after_entry e root (base_at s value) ≡
     base_at (base_step s e) (base_value_step pool value e)

@@ -129,8 +129,8 @@ impl Base {
         self.timer = Some(self.reseed(root, now));
     }
 
-    // What `install` and `fire` have in common: everything but the timer. Returns the moment at which the next reseed
-    // is due.
+    // Does what `install` and `fire` have in common: everything but the timer. Returns the moment at which the next
+    // reseed is due.
     fn reseed(&mut self, root: [u8; 32], now: u64) -> u64
         requires generation { self.old.generation < 2 ^ 63 }
         requires now { now < 2 ^ 40 }
@@ -176,7 +176,7 @@ impl Base {
         self.running = self.running.saturating_add(1);
     }
 
-    /// Counts one running caller less. The count stays at 0 once it is there.
+    /// Counts one running caller fewer. The count stays at 0 once it is there.
     pub fn down(&mut self)
         ensures { self.new ≡ record self.old { running = one_less self.old.running } }
     {
@@ -185,7 +185,7 @@ impl Base {
 }
 
 /// The milliseconds until the next reseed (`crng_reseed_interval`). While the system is young, the interval is half the
-/// system's age, in whole seconds, and at least one second. From the first reseed at 120 seconds or later on, the
+/// system's age, in whole seconds, and at least one second. From the first reseed at an age of 120 seconds or more, the
 /// interval is always a minute.
 fn reseed_interval(early_boot: &mut bool, now: u64) -> u64
     ensures early_boot { early_boot.new ≡ early_boot_after (Some now) early_boot.old }

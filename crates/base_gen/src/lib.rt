@@ -22,10 +22,10 @@
 //!
 //! # Proved
 //!
-//! - [`Base::install_early`], [`Base::install`] and [`Base::fire`]: the base after the entry that installs this root.
-//!   The generation, the phase and the timer are those of the definition.
+//! - [`Base::install_early`], [`Base::install`] and [`Base::fire`]: each changes the base like the entry that installs
+//!   this root. The generation, the phase and the timer become those of the definition.
 //! - [`Base::draw`] and [`Base::call_key`]: bytes 0 to 32 of the key's own keystream replace the key. The bytes that
-//!   are handed out are those from 32 on.
+//!   are handed out begin at byte 32 of this keystream.
 //! - [`Base::due`]: the result is whether the timer is set, and due at this moment.
 //! - [`Base::up`] and [`Base::down`]: the count of running callers goes up or down by one, and stays between 0 and
 //!   `u32::MAX`.

@@ -40,7 +40,7 @@ abbrev pub CalledOnce : Lanes → Event → Caller → Caller → Reply → List
 CalledOnce t (Vread len flags) c d said served steps = StateRead t len flags c d said served steps [] []
 CalledOnce t event c d said served steps = Called t event c d said served steps
 
--- `lines`, as if the run had kept them, with memory for the lines of the events `rest` and for a last line
+-- `lines` as if the run had kept them, with room left for the lines of the events `rest` and for a last line
 abbrev pub as_kept : List SeenLine → List Event → Gathered
 as_kept lines rest = record {
   lines = lines;
@@ -51,7 +51,8 @@ as_kept lines rest = record {
   step_room = 20 * (length rest + 1);
 }
 
--- the caller has made `lines`, and can go on with the events `rest` if `served` bytes can be served at once
+-- the caller has made `lines`. With a buffer of `served` bytes it can go on with the events `rest`, which include no
+-- act and no fork
 pub record GoesAlone (t : Lanes) (served : ℕ) (begun : Start) (events rest : List Event) (c : Caller)
     (lines : List SeenLine) : Type 0 where
   pub inside : ℕ
@@ -77,8 +78,8 @@ pub record IsGoing (script : Script) (rest : List Event) (run : LoneRun) (lines 
   pub whole : (view pass).share ≡ 2 ^ (view pass).halvings
   pub goes : GoesAlone run.lanes (vec_len run.served) (first_start pass) events rest run.caller lines
 
--- the caller has made the events `made`. If a well-formed script has `cpus` CPUs, one caller, no act and no fork, and
--- its events begin with `made`, the run can go on with the events that follow
+-- the caller has made the events `made`. Suppose that a well-formed script has `cpus` CPUs and one caller, whose events
+-- begin with `made` and include no act and no fork. Then the run can go on with the events that follow
 abbrev pub HasMade : ℕ → List Event → LoneRun → List SeenLine → Type 0
 HasMade cpus made run lines =
     (script : Script) (rest : List Event) → WellFormed script → IsEmittedByOne script → script.cpus ≡ cpus

@@ -47,7 +47,7 @@ pub record Seen (found : ℕ) (s : CallerState) : Type 0 where
   pub current : s.current < 16
   pub published : AllByRecursion (λ st. st.generation ≤ published_by found) s.states
 
--- `Seen` holds for the caller's states, with the generation that its pass has seen
+-- `Seen` holds for the caller's states, with the generation that the caller's pass has seen
 abbrev pub StatesConform : Caller → Type 0
 StatesConform c = Seen (floor (view c.pass)) (conform c)
 
@@ -91,8 +91,8 @@ pub record HasLeft (t : Lanes) (c d : Caller) (steps : List Step) : Type 0 where
   pub reached : floor (view d.pass) ≤ (model d.pass 1).base.generation
   pub did : Makes (BaseOnly End) c.set (moment c.pass []) (moment d.pass steps)
 
--- the caller, which was `c` and is now `d`, read `n` bytes out of its current state with these flags. The requests
--- `asks` are those of the acts inside, and `zs` are the acts' outcomes
+-- the caller, which was `c` and is now `d`, read `n` bytes out of its current state with these flags. `asks` are the
+-- requests of the acts inside the read, and `zs` are the acts' outcomes
 pub record StateRead (t : Lanes) (n flags : ℕ) (c d : Caller) (said : Reply) (served : List ℕ) (steps : List Step)
     (asks : List Ask) (zs : List ActOutcome) : Type 0 where
   pub has : HoldsLanes t d.set.caller [] d.pass

@@ -55,8 +55,8 @@ pub record CallDoneBy (caller splits : ℕ) (v w : View) (s t : CallerState) (ca
 abbrev pub CallDone : ℕ → View → View → CallerState → CallerState → Call → Type 0
 CallDone caller v w s t call = CallDoneBy caller 0 v w s t call
 
--- a meaning of each of `calls`: one after another they lead the caller from the state `s` to `t`, and they agree with
--- the calls' lines
+-- a meaning for each of `calls`. One after another, these meanings lead the caller from the state `s` to `t`, and each
+-- agrees with the lines of its call
 pub record CallsMeant (lists : Lists) (s : CallerState) (calls : List Call) (t : CallerState) : Type 0 where
   pub meanings : List CallMeaning
   pub means : CallsMean s calls meanings

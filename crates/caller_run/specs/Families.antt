@@ -11,29 +11,30 @@ use Rattle.lane_table.specs.WorldRule.{AllBegin, Begins, at, known_of}
 use Rattle.caller_run.specs.Laws.{Run, HasRun, IsOneOf, marked}
 use Rattle.caller_run.specs.Standing.{Start}
 
--- in each lane, `visits` begins with the visits that the pass has seen, and with the visits that each joined pass had
--- seen
+-- `v` is the view of a pass. In each lane, the visits that the pass has seen are a prefix of `visits`, and so are the
+-- visits that each joined pass had seen
 pub record Hears (visits : ℕ → List Visit) (v : View) : Type 0 where
   pub known : (lane : ℕ) → lane < length v.lanes → Begins (known_of v lane) (visits lane)
   pub heard : (lane : ℕ) → lane < length v.lanes → AllBegin (at lane v).heard (visits lane)
 
--- `r` is the run of a caller of the script that made all its events
+-- in the run `r`, a caller of the script made all of its events
 pub record RunsIn (script : Script) (r : Run) : Type 0 where
   pub events : List Event
   pub there : slice_get script.callers r.begun.caller ≡ Some events
   pub has : HasRun r.begun.caller events r
 
--- `runs` are runs of callers. Each caller began from one of these starts, or was forked by a caller of one of `runs`
+-- `runs` are runs of callers of the script. Each of these callers began at one of `starts`, or was forked by a caller
+-- whose run is among `runs`
 pub record Family (script : Script) (starts : List Start) (runs : List Run) : Type 0 where
   pub each : AllByRecursion (RunsIn script) runs
   pub began : AllByRecursion
       (λ r. IsOneOf r.begun starts ⊎ ((p : Run) × IsOneOf p runs × IsOneOf r.begun p.kids)) runs
 
--- for all marks of a lane in this caller's lines, the sum of f over their places
+-- the sum of f over the places of all marks of `lane` in the lines of the run `r`
 abbrev pub marked_by : (ℕ → ℕ) → LaneId → Run → ℕ
 marked_by f lane r = marked f lane (r.lines ∷ [])
 
--- a pass had the view v, and joined the passes of these callers; its view is now w
+-- a pass with the view v joined the passes of the runs `runs`; after that its view is w
 pub record Joined (v w : View) (runs : List Run) : Type 0 where
   pub sized : length w.lanes ≡ length v.lanes
   pub hears : (visits : ℕ → List Visit) → Hears visits w →

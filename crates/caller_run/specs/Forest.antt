@@ -9,7 +9,7 @@ pub data Forest : Type 0 where
   no_more : Forest
   more : (caller : ℕ) (kids rest : Forest) → Forest
 
--- the callers that an event, or a list of events, forks in order
+-- the callers that an event, or a list of events, forks, in the order of the forks
 abbrev pub forked_by : Event → List ℕ
 forked_by (Fork child) = child ∷ []
 forked_by _ = []

@@ -24,7 +24,7 @@ abbrev pub seeded : ForkTree → List Layout → ForkTree
 seeded f [] = f
 seeded f (p ∷ ps) = seeded (plant p f) ps
 
--- the tree of the rooms `ps`, which are listed from the last to the first
+-- the tree of the rooms `ps`; the last of `ps` comes first in the tree
 abbrev pub fork_tree_of : List Layout → ForkTree
 fork_tree_of ps = seeded cleared ps
 

@@ -1,5 +1,5 @@
--- The steps of a caller's calls in the order in which they happen. Each step has its maker: the event of its line, and
--- its number in that line.
+-- The steps of a caller's calls in the order in which they happen. Each step has its maker: the number of its line's
+-- event, and the number of the step in that line.
 use Rattle.std.specs.Prelude.{ℕ, suc, false, List, [], ◌∷◌, ◌++◌, map, take, drop, slice_get, if◌then◌else◌}
 use Rattle.std.specs.Option.{option_map_or}
 use Rattle.std.specs.List.{flat_map}
@@ -42,8 +42,8 @@ cut_items [] = ([], [])
 cut_items (item ∷ items) =
     if is_mark item.step then (let cut = cut_items items in (item ∷ cut.0, cut.1)) else ([], item ∷ items)
 
--- cuts `items`, the steps of a vread after its first two, for the points Serve and End. The cut is after the steps for
--- a new key, or at the front if there are no such steps
+-- cuts `items`, the steps of a vread after its first two, at the place of the points Serve and End. This place is after
+-- the steps for a new key, or at the front if there are no such steps
 abbrev pub cut_rekey : List Item → List Item × List Item
 cut_rekey items =
     if option_map_or (λ item. is_mark item.step) (slice_get items 2) false

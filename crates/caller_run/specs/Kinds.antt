@@ -52,7 +52,8 @@ IsCall (Fork child) = ⊥
 IsCall (Inside point act) = ⊥
 IsCall _ = ⊤
 
--- an event other than a vread, a fork, an act and the kinds above: it makes no call of the core, and may set something
+-- an event that is no vread, no fork, no act, and of no kind from `IsSample` to `IsInteger`. It makes no call of the
+-- core, but may set something
 abbrev pub IsQuiet : Event → Type 0
 IsQuiet event = IsCall event × (IsSample event → ⊥) × (IsReseed event → ⊥) × (IsOfCpu event → ⊥) × (IsRead event → ⊥)
     × (IsInteger event → ⊥)

@@ -1,5 +1,5 @@
--- The law of a script with its callers: their calls, from the start of a table to its end, make a lawful transcript of
--- the script.
+-- The law of a script: the calls of its callers, from the start of a table to the table's end, make a lawful transcript
+-- of the script.
 use Rattle.std.specs.Prelude.{◌≡◌, ◌⊎◌, ℕ, ◌+◌, ◌<◌, ◌≤◌, List, [], ◌∷◌, map, length}
 use Rattle.std.specs.List.{AllByRecursion, sum_by}
 use Rattle.key_names.specs.declared.events.Event.{Event}
@@ -26,8 +26,8 @@ pub record Run : Type 0 where
   pub lines : List SeenLine
   pub kids : List Start
 
--- the caller of this number made these events and ended. At its end, a replay of the part of the base's list that its
--- pass has seen gives a generation that is at least each generation that the pass saw
+-- the caller with this number made these events and ended. At the end its pass has seen a part of the base's list. The
+-- generation after a replay of this part is at least each generation that the pass saw
 pub record HasRun (caller : ℕ) (events : List Event) (r : Run) : Type 0 where
   pub own : r.begun.caller ≡ caller
   pub ended : RunEnded r.begun events r.end r.lines r.kids
@@ -37,7 +37,7 @@ abbrev pub IsOneOf : {X : Type 0} → X → List X → Type 0
 IsOneOf x [] = ⊥
 IsOneOf x (y ∷ ys) = (y ≡ x) ⊎ IsOneOf x ys
 
--- the run `r` is that of caller 0 and started with the first setting, or it started at a fork that one of `runs` made
+-- `r` is the run of caller 0, which started with the first setting, or of a caller that was forked in one of `runs`
 pub record Began (runs : List Run) (r : Run) : Type 0 where
   pub how : ((r.begun.caller ≡ 0) × (r.begun.set ≡ first_setting))
       ⊎ ((p : Run) × IsOneOf p runs × IsOneOf r.begun p.kids)
@@ -46,7 +46,7 @@ pub record Began (runs : List Run) (r : Run) : Type 0 where
 abbrev pub lines_of_all : List Run → List (List SeenLine)
 lines_of_all runs = map (λ r. r.lines) runs
 
--- for all marks of a lane in these lines, the sum of f over their places
+-- the sum of f over the places of all marks of `lane` in these lines
 abbrev pub marked : (ℕ → ℕ) → LaneId → List (List SeenLine) → ℕ
 marked f lane t = sum_by (λ mark. f mark.place) (lane_marks lane (all_marks t))
 

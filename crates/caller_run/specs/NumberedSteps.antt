@@ -1,4 +1,5 @@
--- The looks and visits of a caller, in order, each with its event and the number of its step.
+-- The looks and visits of a caller, in order. Each has the number of its event and its own number among the steps of
+-- that event's line.
 use Rattle.std.specs.Prelude.{ℕ, suc, List, [], ◌∷◌, map}
 use Rattle.caller_run.specs.Items.{Item}
 use Rattle.lane_table.specs.Advances.{MadeStep, step_of}
@@ -21,7 +22,7 @@ made_step_of d = d.made_step
 abbrev pub made_steps_of : List NumberedStep → List MadeStep
 made_steps_of numbered_steps = map made_step_of numbered_steps
 
--- a look or a visit, as an item of its caller's order
+-- a look or a visit as an item (`Item`)
 abbrev pub item_of : NumberedStep → Item
 item_of d = record { event = d.event; number = d.number; step = step_of d.made_step }
 

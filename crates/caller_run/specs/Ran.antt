@@ -15,7 +15,8 @@ Stood w caller d = Standing d.made_step
     Standing (looked g) = ⊤
     Standing (visited mark e) = IsMarkOf w mark (maker caller d.event d.number) e
 
--- v and w agree in the parts of a view that only joins change, except that each split added one halving of the share
+-- the views v and w have the same `first`, the same share and the same number of lanes; each of the `splits` splits
+-- added one halving
 pub record SplitView (splits : ℕ) (v w : View) : Type 0 where
   pub first : w.first ≡ v.first
   pub share : w.share ≡ v.share

@@ -59,7 +59,8 @@ module _ (callers : List (List Event)) where
       (c ≡ x) × (c < length callers) × IsNewBuffers s (list_at callers c) × ArePrepared ks (forks (list_at callers c))
       × ArePrepared rest xs
 
-  -- a measure of recursion: it is smaller for the children of a caller than for the caller with its children
+  -- a measure that shrinks with each recursion: it is smaller for the rooms of a caller's children than for a tree with
+  -- the caller's room
   abbrev pub load : ForkTree → ℕ
   load cleared = 0
   load (planted c s ks rest) = length (list_at callers c) + 4 + (load ks + load rest)
@@ -103,7 +104,7 @@ pub record CanRun (t : Lanes) (script : Script) (set : Setting) (p : Pass) (a : 
   pub new : IsNewBuffers a.buffers (list_at script.callers a.caller)
   pub ready : ArePrepared script.callers a.kids (forks (list_at script.callers a.caller))
 
--- a running caller can make these events, and the rooms of the callers that they fork are new
+-- a running caller can make these events, and the rooms of the callers that the events fork are new
 pub record CanAdvanceOn (t : Lanes) (script : Script) (events : List Event) (w : RunningCaller) : Type 0 where
   pub can : CanAdvanceIn t w events
   pub well : WellFormed script
@@ -150,7 +151,7 @@ pub record RanHere (set : Setting) (m n : Moment) : Type 0 where
   pub stall : Makes (BaseOnly Stall) set m middle
   pub unstall : Makes (BaseOnly Unstall) set middle n
 
--- the caller m made all steps of the fork of `child`, and is now d
+-- the caller m made all steps of the fork of `child`, and is now d; u is its pass's view after the fork's visit
 pub record TookFrom (m d : Caller) (child : ℕ) (u : View) (steps : List Step) : Type 0 where
   pub set : d.set ≡ m.set
   pub states : d.states ≡ m.states
@@ -206,7 +207,7 @@ pub record Past (script : Script) (begun : Start) (events : List Event) (kids : 
   pub after : SameHalves (halved u) following
   pub went : WentFrom script begun events (kids ++ kid ∷ []) following y
 
--- a child ran in its own thread, and its parent went on
+-- a child ran to its end, in its own thread or in its parent's, and its parent went on to its own end
 pub record WentBeside (t : Lanes) (script : Script) (child : ℕ) (rest : List Event) (w : RunningCaller) (steps : List Step)
     (theirs : Pass) (a : Layout) (y : RunningCaller) (q : Pass) (b : Layout) : Type 0 where
   pub has : HoldsLanes t y.caller.set.caller [] y.caller.pass

@@ -37,8 +37,8 @@ read_inside _ = 0
 abbrev pub waiting_in : Log → List Ask
 waiting_in log = asks_of log.acts.items
 
--- a caller with these lines can make these events, while these acts wait. `served` bytes can be served at once, and
--- `inside` bytes can be read inside a vread
+-- a caller with these lines and these waiting acts can make the events `rest`. It has a buffer of `served` bytes, and
+-- one of `inside` bytes for the reads inside vreads
 pub record CanAdvanceWith (t : Lanes) (c : Caller) (lines : Gathered) (acts : List Bound) (served inside : ℕ)
     (rest : List Event) : Type 0 where
   pub ready : IsReady t c
@@ -72,7 +72,7 @@ pub record Start : Type 0 where
   pub set : CallSetting
   pub view : View
 
--- a caller that began as `begun`, and has the view w now, forked this child by one of these calls
+-- a caller that began as `begun` and has the view w forked the child `child` in one of these calls
 pub record Forked (begun : Start) (w : View) (calls : List Call) (child : Start) : Type 0 where
   pub before : List Call
   pub line : SeenLine
@@ -110,8 +110,8 @@ pub record HasAdvanced (begun : Start) (events rest : List Event) (c : Caller) (
 abbrev pub HasLogged : Start → List Event → List Event → Caller → Log → List Start → Type 0
 HasLogged begun events rest c log kids = HasAdvanced begun events rest c log.lines.lines (waiting_in log) kids
 
--- the caller made this event: it was c and is now d, and its log was `log` and is now `after`. `served` bytes can be
--- served at once, and `inside` bytes can be read inside a vread
+-- the caller made this event: it was c and is now d, and its log was `log` and is now `after`. It has a buffer of
+-- `served` bytes, and one of `inside` bytes for the reads inside vreads
 pub record MadeEvent (t : Lanes) (served inside : ℕ) (event : Event) (c : Caller) (log : Log) (d : Caller) (after : Log)
     : Type 0 where
   pub can : (rest : List Event) → CanAdvance t c log served inside (event ∷ rest) → CanAdvance t d after served inside rest

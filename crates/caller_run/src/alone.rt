@@ -36,7 +36,7 @@ pub struct LoneRun {
     pub(crate) recorded: EmittedLine,
 }
 
-// The largest number of bytes that a line of these events shows, or `None` if one of them is an act or a fork.
+// The most bytes that a line of these events can show, or `None` if one of the events is an act or a fork.
 fn longest_line(events: &[Event]) -> Option<u32>
     ensures none { result ≡ None → All IsEmittedOnce events.now → ⊥ }
     ensures once { IfSome result (λ _. All IsEmittedOnce events.now) }
@@ -82,8 +82,8 @@ impl LoneRun {
     }
 
     /// The run of a whole script on a new table, before its first event. Returns `None` if and only if the script has
-    /// several callers or an act inside a vgetrandom call; the line of such an act is made twice. This function takes
-    /// all memory of the run.
+    /// several callers or an act inside a vgetrandom call. The line of such an act is made twice, but this run keeps no
+    /// line. This function takes all memory of the run.
     ///
     /// # Errors
     ///

@@ -1,4 +1,4 @@
-//! Callers that fork: the memory of each, where each runs, and how a parent goes on after its children.
+//! Callers that fork: each caller's memory, where each caller runs, and how a parent runs from one fork to the next.
 
 pub(crate) mod children;
 pub(crate) mod here;

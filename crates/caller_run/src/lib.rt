@@ -1,14 +1,15 @@
-//! The run of a script: its callers make their events over the lanes of one table, and leave a transcript.
+//! The run of a script: the script's callers make their events over the lanes of one table, and leave a transcript.
 //!
-//! [`run_all`] runs caller 0 from its start to its end, in a thread. A child that it forks runs in a thread of its own,
-//! or in its parent's thread if no thread can be made ([`run_here`]). A child can fork children in turn. A parent joins
-//! its children after its own last visit. All memory of a run is taken first, as a [`Plan`]. Only threads take memory
-//! later; a thread's stack has the size that the caller and the callers that it forks need. The only caller of a script
-//! can also be handed its events one by one ([`LoneRun`]); then no line is kept.
+//! [`run_all`] runs caller 0 from its start to its end, in a new thread if one can be made. A child that it forks runs
+//! in a thread of its own, or in its parent's thread if no thread can be made ([`run_here`]). A child can fork children
+//! in turn. A parent joins its children after its own last visit. All memory of a run is taken first, as a [`Plan`].
+//! Later only the start of a thread takes memory. A thread's stack has the size that its caller needs, with all callers
+//! that this caller forks. The only caller of a script can also be handed its events one by one ([`LoneRun`]); then no
+//! line is kept.
 //!
-//! The clauses of `rng_core` describe each call and its steps. Those of `lane_table` describe a pass's view of the
-//! lanes, and how passes are split off, lent and joined. This crate uses only these clauses: no code here looks into a
-//! lane.
+//! The clauses of `rng_core` describe each call and its steps. The clauses of `lane_table` describe a pass's view of
+//! the lanes, and how passes are split off, lent and joined. This crate uses only these clauses: no code here looks
+//! into a lane.
 //!
 //! # Example
 //!
@@ -42,8 +43,9 @@
 //!
 //! # Tested only
 //!
-//! A child that [`run_here`] runs makes its visits between the two visits by which its parent stops running and goes
-//! on: `run_tests` of `test_core`. Two callers are inside their reads at once: the tests of `rng_tool`.
+//! A child that [`run_here`] runs makes its visits between its parent's two visits, by which the parent stops running
+//! and then goes on: `run_tests` of `test_core`. Two callers can be inside their reads at once: the tests of
+//! `rng_tool`.
 #![tactic(auto)]
 
 mod alone;

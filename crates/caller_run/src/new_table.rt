@@ -16,7 +16,8 @@ use std::sync::Wait;
 use std::thread::Threads;
 use transcript_text::Transcript;
 
-/// Runs all callers of a script on a new table. All memory but that of threads is taken before the first event.
+/// Runs all callers of a script on a new table. All memory except the memory of threads is taken before the first
+/// event.
 ///
 /// # Errors
 ///
@@ -49,7 +50,7 @@ fn need_stack(alloc: Global, script: &Script) -> Result<(), AllocError> {
 ///
 /// # Errors
 ///
-/// Those of [`run_on_new_table`].
+/// The same errors as [`run_on_new_table`].
 pub fn run_new<R: Threads + Wait + Sync, G: Gate>(
     rt: &R,
     alloc: Global,

@@ -1,4 +1,4 @@
-//! The run of callers: each to its end, with those that it forks, and all callers of a script.
+//! Runs one caller to its end with all callers that it forks, or runs all callers of a script.
 ghost use Rattle.std.specs.Prelude.{◌≡◌, ◌<◌, ◌^◌, []};
 ghost use Rattle.std.specs.Thread.{IsSync};
 ghost use Rattle.key_names.specs.Texts.ScriptGrammar.{WellFormed};
@@ -30,8 +30,8 @@ use transcript_text::Transcript;
 /// memory.
 ///
 /// The caller starts with the CPU, the moment and the hardware words of `set`, at event 0 and with wiped vgetrandom
-/// states. It fills the room, which is its memory. A child gets a thread if children run in threads, and runs here if
-/// no thread can be made. The gate is called before each event.
+/// states. It fills the room, which is its memory. A child gets its own thread if `shared.children` is `InThreads` and
+/// a thread can be made; otherwise it runs here. The gate is called before each event.
 pub fn run_caller<R: Threads + Wait + Sync, G: Gate>(
     shared: &Shared<'_, R, G>,
     pass: Pass,
@@ -168,8 +168,8 @@ fn run_from<R: Threads + Wait + Sync, G: Gate>(
     running
 }
 
-// Runs a script's first caller, and all callers that it forks, in a further thread. The stack of that thread has the
-// size that the callers need, whatever the stack of the program's first thread is. The stack is taken before any caller
+// Runs a script's first caller, and all callers that it forks, in a new thread. The stack of that thread has the size
+// that the callers need, however small the stack of the program's first thread is. The stack is taken before any caller
 // starts. If no thread can be made, the callers run here.
 fn run_first<R: Threads + Wait + Sync, G: Gate>(
     shared: &Shared<'_, R, G>,
@@ -256,7 +256,7 @@ pub fn run_all<R: Threads + Wait + Sync, G: Gate>(
     run_plan(&shared, pass, plan)
 }
 
-/// Does the work of `run_all` over the callers' shared values.
+/// Does the work of `run_all`; `shared` has the values that all callers share.
 pub(crate) fn run_plan<R: Threads + Wait + Sync, G: Gate>(
     shared: &Shared<'_, R, G>,
     pass: Pass,

@@ -26,8 +26,8 @@ pub refilled-handed_at : (lists : Lists) (refill : Option ℕ) (handed : CpuValu
 refilled-handed_at lists None handed g value is = refl
 refilled-handed_at lists (Some place) handed g value is = is place refl
 
--- if `handed` is the key and the generation that the base hands over in the refill that `e` names, then `e` changes the
--- generator with the state `s` and the key `value` into the generator with the state and the key after `e`
+-- suppose that `handed` is the key and the generation that the base hands over in the refill that `e` names. Then `e`
+-- changes the generator with the state `s` and the key `value` into the generator with the state and the key after `e`
 pub after_entry-cpu_at : (lists : Lists) (c : ℕ) (s : CpuState) (value : List ℕ) (e : CpuEntry) (handed : CpuValue) →
     HandsRefill lists e handed → after_entry e handed (cpu_at s value) ≡ cpu_at (cpu_step lists.base c s e)
     (cpu_value_step lists value e)

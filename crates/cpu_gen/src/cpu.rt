@@ -97,8 +97,8 @@ impl Cpu {
         }
     }
 
-    /// The CPU is about to come online (`random_prepare_cpu`). Generation 0, the kernel's `ULONG_MAX`, marks the key as
-    /// old. The key stays until it is replaced.
+    /// Prepares a CPU that is about to come online (`random_prepare_cpu`). Generation 0 marks the key as old, as
+    /// `ULONG_MAX` does in the kernel. The key stays until it is replaced.
     pub fn prepare(&mut self)
         ensures { self.new ≡ prepared self.old }
     {

@@ -23,7 +23,7 @@
 //! - [`Cpu::refill`]: the CPU has the key and the generation that it was given. [`Cpu::prepare`]: it has generation 0,
 //!   and its key stays.
 //! - [`Cpu::front`] and [`Cpu::call_key`]: bytes 0 to 32 of the key's own keystream replace the key. The bytes that are
-//!   handed out are those from 32 on.
+//!   handed out begin at byte 32 of this keystream.
 //! - [`Cpu::kernel_read`]: the bytes are those of a kernel read with this key. The key is erased unless the buffer is
 //!   empty.
 //!
@@ -33,7 +33,7 @@
 //!
 //! # Differs from the kernel
 //!
-//! A CPU that has no key, or was prepared, has generation 0. In the kernel it has the greatest one, `ULONG_MAX`.
+//! A CPU that has no key, or was prepared, has generation 0. In the kernel it has the greatest generation, `ULONG_MAX`.
 #![tactic(auto)]
 
 pub mod cpu;

@@ -40,7 +40,7 @@ next_bytes-batched_int width key fill b is below =
     ∙ ap (keystream key (32 + from)) len
 
 -- the first `from` bytes of a batch, followed by an integer that was set to 0, are `from + width` bytes (for
--- IsBatchOf-after_serving)
+-- `IsBatchOf-after_serving`)
 length_front : (from width : ℕ) (bytes : List ℕ) → from ≤ length bytes →
     length (take from bytes ++ replicate width 0) ≡ from + width
 length_front from width bytes within =

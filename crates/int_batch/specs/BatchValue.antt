@@ -19,7 +19,7 @@ start width = record { bytes = replicate 96 0; position = 96 / width; generation
 abbrev pub last_fill : BatchValue → Fill
 last_fill b = record { key = None; place = 0; count = b.position; look = b.generation }
 
--- whether the batch has to be filled before it serves an integer at generation g
+-- whether the batch has to be filled before it serves an integer at generation `g`
 abbrev pub wants : ℕ → ℕ → BatchValue → Bool
 wants g width b = must_fill g width (Some (last_fill b))
 
@@ -43,7 +43,7 @@ abbrev pub Serves : ℕ → BatchValue → List ℕ → BatchValue → Type 0
 Serves width b entry after = (entry ≡ next_bytes width b) × (after ≡ after_serving width b)
 
 -- the batch `b` serves the integer `entry` at generation `g`, and then is `after`. If the batch has to be filled first,
--- the new bytes are some that `Fills` allows
+-- `Fills` holds for the new bytes
 abbrev pub ServesAt : ℕ → ℕ → (List ℕ → Type 0) → BatchValue → List ℕ → BatchValue → Type 0
 ServesAt width g Fills b entry after =
     MatchBool (wants g width b) ((bytes : List ℕ) × Fills bytes × Serves width (filled bytes g) entry after)

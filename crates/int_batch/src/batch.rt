@@ -43,8 +43,8 @@ impl<const W: usize> Batch<W> {
         }
     }
 
-    /// Whether the batch has to be filled before it serves an integer at generation `g`: it is used up, or has another
-    /// generation.
+    /// Whether the batch has to be filled before it serves an integer at generation `g`: the batch is used up, or has
+    /// another generation.
     pub fn wants(&self, g: u64) -> bool
         ensures { result ≡ wants g W self.now }
     {

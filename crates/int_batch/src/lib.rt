@@ -1,6 +1,6 @@
 //! Batched integers: 96 bytes of a key's stream, served as integers of one width. `get_random_u8` to `get_random_u64`
-//! of drivers/char/random.c work in this way (`DEFINE_BATCHED_ENTROPY`). The caller supplies the 96 bytes. The crate
-//! uses the definitions of `key_names` alone.
+//! of drivers/char/random.c work in this way (`DEFINE_BATCHED_ENTROPY`). The caller supplies the 96 bytes. Of the other
+//! crates here, this crate uses only the definitions of `key_names`.
 //!
 //! # Example
 //!

@@ -3,7 +3,7 @@ use Rattle.std.specs.Prelude.{ℕ, ◌-◌, ◌≡◌, ◌==◌, ◌<◌, ◌⊎
 use Rattle.std.specs.List.{list_any}
 use Rattle.io_edges.specs.Faults.{next_count}
 
--- whether the call with the given number fails: `fails` lists the number
+-- whether `fails` lists the number; if so, the call with this number fails
 abbrev pub is_listed : ℕ → List ℕ → Bool
 is_listed number fails = list_any (λ k. k == number) fails
 
@@ -43,7 +43,8 @@ pub record SinkState : Type 0 where
   pub calls : ℕ
   pub faults : ℕ
 
--- the sink's next put, of `piece`, fails: the number of the put is listed, or `piece` has bytes and the sink no room
+-- the sink's next put, of `piece`, fails: the number of the put is listed, or `piece` has bytes and the sink has no
+-- room
 abbrev pub PutFails : SinkState → List ℕ → Type 0
 PutFails s piece = IsTrue (is_listed (next_count s.calls) s.fails) ⊎ ((0 < length piece) × (s.room ≡ length s.held))
 

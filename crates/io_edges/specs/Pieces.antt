@@ -2,10 +2,10 @@
 use Rattle.std.specs.Prelude.{ℕ, ◌≤◌, List, Option, length, take}
 use Rattle.std.specs.Io.KnownBytes.{Appends, Consumes}
 
--- the known bytes (those that a sink exposes, if any) grew by the first n bytes of `text`, for some n
+-- the bytes that a sink exposes (None if it exposes none) grew by the first n bytes of `text`, for some n
 abbrev pub AppendsPrefix : Option (List ℕ) → Option (List ℕ) → List ℕ → Type 0
 AppendsPrefix old new text = (n : ℕ) × (n ≤ length text) × Appends old new (take n text)
 
--- the known bytes (those that a source exposes, if any) lost a prefix of at most `most` bytes
+-- the bytes that a source exposes (None if it exposes none) lost a prefix of at most `most` bytes
 abbrev pub ConsumesUpTo : ℕ → Option (List ℕ) → Option (List ℕ) → Type 0
 ConsumesUpTo most old new = (front : List ℕ) × (length front ≤ most) × Consumes old new front

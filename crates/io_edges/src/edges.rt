@@ -8,7 +8,7 @@ ghost use Rattle.io_edges.specs.Faults.{Rose};
 #[derive(Clone, Copy, Debug, PartialEq, Eq)]
 pub struct Failed;
 
-/// Gives bytes of an input.
+/// A source gives the bytes of an input.
 pub trait Source {
     /// The bytes that are left, or `None` if the source does not expose them.
     ghost left: { Self → Option (List ℕ) };
@@ -16,9 +16,9 @@ pub trait Source {
     /// How often the source has failed. The count rises only with a failure, and stops at `u64::MAX`.
     ghost faults: { Self → ℕ };
 
-    /// Takes bytes from the front of the input into the front of `buf`, and returns how many. If it returns 0 for a
-    /// buffer that is not empty, the input is at its end. The other bytes of `buf` are unspecified. After a failure all
-    /// bytes of `buf` are unspecified.
+    /// Takes bytes from the front of the input into the front of `buf`, and returns how many. The other bytes of `buf`
+    /// are unspecified; after a failure all bytes of `buf` are. A result of 0 for a buffer that is not empty means that
+    /// the input is at its end.
     ///
     /// # Errors
     ///
@@ -32,7 +32,7 @@ pub trait Source {
         ensures cause { OnErr result (Rose (faults self.old) (faults self.new)) };
 }
 
-/// Takes bytes of an output. A sink may buffer bytes until it is flushed.
+/// A sink takes the bytes of an output. It may buffer bytes until it is flushed.
 pub trait Sink {
     /// The bytes that the sink holds, or `None` if it does not expose them.
     ghost held: { Self → Option (List ℕ) };

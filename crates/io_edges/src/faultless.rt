@@ -4,8 +4,8 @@ ghost use Rattle.std.specs.Prelude.{◌≡◌, [], length, Some, None, IsOk};
 use crate::{Failed, Sink, Source};
 use std::marker::Model;
 
-/// A source over bytes in memory that never fails. Contracts can refer to the bytes that are left. A program that calls
-/// the function `run` of `rng_tool` can pass this source. Then the clauses of `run` exclude a fault.
+/// A source that never fails. It gives bytes that are in memory. Contracts can refer to the bytes that are left. A
+/// program that calls the function `run` of `rng_tool` can pass this source. Then the clauses of `run` exclude a fault.
 #[derive(Drop)]
 pub struct NoFaultSource {
     bytes: Vec<u8>,

@@ -10,7 +10,7 @@ use crate::{Failed, NoMemory, Sink, Source};
 use std::alloc::Global;
 use std::marker::Model;
 
-// A count of the calls, from 1, with the numbers of the calls that fail.
+// Counts calls and faults, and lists the numbers of the calls that fail. The first call has number 1.
 #[derive(Drop)]
 struct Calls {
     fails: Vec<u64>,
@@ -47,7 +47,7 @@ impl Calls {
     }
 }
 
-/// A source over bytes in memory that gives at most `step` bytes a call.
+/// A source of bytes in memory. It gives at most `step` bytes a call.
 ///
 /// Calls are numbered from 1. From call number `u64::MAX` on, all calls have this number. A call fails if and only if
 /// its number is listed.

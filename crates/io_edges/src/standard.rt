@@ -85,8 +85,8 @@ impl<O: Write + Drop> Sink for StdSink<O> {
 
     ghost faults = { λ s. s.faults };
 
-    // A write that a signal interrupts is retried. A write that takes no byte is a fault unless the piece is empty:
-    // otherwise a caller that puts until all is written would never end.
+    // A write that a signal interrupts is retried. If a write takes no byte of a piece that is not empty, this is a
+    // fault. Without this rule, a caller that puts until all is written might never end.
     fn put(&mut self, piece: &[u8]) -> Result<usize, Failed>
         // The sink counts a fault if and only if the call fails.
         ensures not_counted { OnOk result (sink_faults self.new ≡ sink_faults self.old) }

@@ -1,4 +1,5 @@
-//! Reads a whole input and puts a whole piece, over sources that give little and sinks that take little at a time.
+//! Reads a whole input from a source that gives little at a time, and puts a whole piece to a sink that takes little at
+//! a time.
 ghost use Rattle.std.specs.Prelude.{◌≡◌, ◌+◌, ◌-◌, ◌^◌, ◌<◌, ◌≤◌, take, vec_len, IfOk, IfSome, OnOk, OnErr, IsErrOf};
 ghost use Rattle.std.specs.Io.KnownBytes.{Appends, Consumes, IsAtEnd};
 ghost use Rattle.io_edges.specs.declared.whole.ReadError.TheVariants.{Fault, NoMemory as Refused};
@@ -8,7 +9,7 @@ ghost use Rattle.io_edges.specs.Pieces.{AppendsPrefix, ConsumesUpTo};
 use crate::{Failed, NoMemory, Sink, Source};
 use std::alloc::Global;
 
-/// The most that one call asks of a source, in bytes.
+/// The most bytes that one call asks of a source.
 const PIECE: usize = 64 * 1024;
 
 /// The reason why an input was not read.

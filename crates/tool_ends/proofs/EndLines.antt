@@ -1,5 +1,4 @@
--- To find a line `end` that the bytes taken last completed, it is enough to search these bytes and the four before
--- them.
+-- If the bytes taken last completed a line `end`, a search of these bytes and the four before them finds this line.
 use Rattle.std.proofs.Common.{◌≡◌, ℕ, ◌+◌, ◌-◌, ◌≤◌, ◌⊎◌, inl, inr, List, ◌++◌, length, Option, None, Some, IsTrue}
 use Rattle.std.proofs.Common.{refl, sym, ap, ◌∙◌, arith, length-append, length-drop}
 use Rattle.std.specs.Prelude.{◌↔◌, drop, slice_index}

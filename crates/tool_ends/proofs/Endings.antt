@@ -1,4 +1,4 @@
--- What a command leaves stays right after the flush at the end of its output.
+-- If a command meets its contract, it still does after the flush at the end of its output.
 use Rattle.std.proofs.Common.{ℕ, ◌≡◌, List, Option, None, Some, ◌++◌, ap, sym, subst, ◌∙◌, inl, inr}
 use Rattle.std.specs.Prelude.{IfSome}
 use Rattle.std.specs.Io.KnownBytes.{Appends, Consumes, IsAtEnd, Keeps}

@@ -13,8 +13,8 @@ use Rattle.tool_ends.specs.Intakes.{HasEndLine}
 
 -- ---- the lines of a text, cut at a line feed
 
--- if a byte is put before `lines`, only the first line changes, or a new first line begins, whatever lines `more`
--- follow
+-- suppose that a byte is put before `lines`. Only the first line changes, or a new first line begins, whatever lines
+-- `more` follow
 onto_joined : (t : Bool) (b : ℕ) (lines more : List (List ℕ)) → HasFirst lines
     → cond t ([] ∷ lines ++ more) (onto_first b (lines ++ more)) ≡ cond t ([] ∷ lines) (onto_first b lines) ++ more
 onto_joined t b [] more some = absurd (let e = some.is in cc)

@@ -10,7 +10,7 @@ use Rattle.tool_ends.specs.Reads.{ReadsEnds, SomeAnswer, WasRead, WritesEnds}
 use Rattle.tool_ends.specs.declared.status.Status.{Status}
 use Rattle.tool_ends.specs.declared.status.Status.TheVariants.{Done, No, Usage, ReadFault, WriteFault, Refused, NoMemory}
 
--- if each output allowed by `Of` is allowed by `Wide`, a command that ends with an output of `Of` ends with one of
+-- if `Wide` allows each output that `Of` allows, a command that ends with an output of `Of` ends with an output of
 -- `Wide`
 pub wider : (Of Wide : Status → List ℕ → Type 0) → ((s : Status) (o : List ℕ) → Of s o → Wide s o) →
     (status : Status) (a b : Option (List ℕ)) → WritesEnds Of status a b → WritesEnds Wide status a b
@@ -22,8 +22,8 @@ wider Of Wide is NoMemory a b e = e
 wider Of Wide is Usage a b e = e
 wider Of Wide is ReadFault a b e = e
 
--- `Of` allows no answer to an input above the limit except a refusal, and the same refusals for all inputs above the
--- limit
+-- the only answers that `Of` allows to an input above the limit are refusals. It allows the same refusals for all
+-- inputs above the limit
 pub record IsLimited (limit : ℕ) (Of : List ℕ → Status → List ℕ → Type 0) : Type 0 where
   pub done : (input output : List ℕ) → Of input Done output → length input ≤ limit
   pub no : (input output : List ℕ) → Of input No output → length input ≤ limit
@@ -75,7 +75,8 @@ module _ (limit : ℕ) (Of : List ℕ → Status → List ℕ → Type 0) (limit
   taken_at_most (Some all) left_after input read front =
       (input, omega (arith, ap length front, length-take (limit + 1) all), read)
 
-  -- if a command read `input`, and wrote an output that is right for it, it meets its contract (`ReadsEnds`)
+  -- if a command read `input`, and wrote an output that is right for `input`, the command meets its contract
+  -- (`ReadsEnds`)
   pub reads_end : (left left_after held held_after : Option (List ℕ)) (input : List ℕ) →
       WasRead limit left left_after input → (status : Status) → WritesEnds (Of input) status held held_after →
       ReadsEnds limit Of status left left_after held held_after

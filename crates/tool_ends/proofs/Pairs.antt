@@ -20,7 +20,8 @@ use Rattle.key_names.specs.declared.faults.ScriptFault.{ScriptFault}
 use Rattle.tool_ends.specs.declared.status.Status.{Status}
 use Rattle.tool_ends.specs.declared.status.Status.TheVariants.{Refused as IsRefused, No as IsNo}
 
--- if the lines are those that the script requires, there is exactly one for each event, and one more for each caller
+-- if the lines are those that the script requires, there is exactly one line for each event, and one more for each
+-- caller
 lines_of_all : (c : ℕ) (callers : List (List Event)) (t : List (List SeenLine)) → AllFit c callers t
     → sum_by length t ≡ sum_by length callers + length callers
 lines_of_all c [] [] fit = refl
@@ -38,7 +39,8 @@ pub few_lines : (script : Script) (t : List (List SeenLine)) → WellFormed scri
     → sum_by length t ≤ 65600
 few_lines script t ok fit = omega (arith, ok.events, ok.callers.1, lines_of_all 0 script.callers t fit)
 
--- if a transcript has more lines than any script's transcript can have, its lines are not those that `script` requires
+-- if a transcript has more lines than any script's transcript can have, the transcript's lines are not those that
+-- `script` requires
 pub too_many : (script : Script) (text : List ℕ) → WellFormed script → HasMoreLines 65600 text → LacksLines script text
 too_many script text ok more = record {
   lines = more.callers;

@@ -1,4 +1,4 @@
--- What a command leaves that reads a script, or a script with a transcript after it.
+-- The effects of a command that reads a script, or a script with a transcript after it.
 use Rattle.std.proofs.Common.{ℕ, ◌+◌, List, Option, sym, subst}
 use Rattle.io_edges.specs.Pieces.{ConsumesUpTo}
 use Rattle.tool_ends.specs.Pairs.{GivesNone, RefusalEnds, RefusalOf}
@@ -11,7 +11,8 @@ use Rattle.tool_ends.proofs.Inputs.{IsLimited, reads_end, wider}
 
 module _ (most : ℕ) (Of : List ℕ → Status → List ℕ → Type 0) (limited : IsLimited most Of)
     (left left_after held held_after : Option (List ℕ)) where
-  -- if a command read `input`, and wrote an output that is right for it, it meets its contract (`ReadsEnds`)
+  -- if a command read `input`, and wrote an output that is right for `input`, the command meets its contract
+  -- (`ReadsEnds`)
   pub said_of : (input : List ℕ) → WasRead most left left_after input → (status : Status) →
       WritesEnds (Of input) status held held_after → ReadsEnds most Of status left left_after held held_after
   said_of input read status e = reads_end most Of limited left left_after held held_after input read status e

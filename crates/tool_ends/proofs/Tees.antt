@@ -4,7 +4,8 @@ use Rattle.std.specs.Prelude.{Result, Ok, Err, IsOk, OnOk}
 use Rattle.std.proofs.lemmas.Bool.{cases_lt}
 use Rattle.std.proofs.lemmas.List.{length-take, take-take, take_all}
 
--- taking n or `room` bytes of a piece, whichever are fewer, is taking n bytes of it and then `room` of these
+-- taking n or `room` bytes of a piece, whichever are fewer, gives the same as taking n bytes of the piece, and then
+-- `room` of these bytes
 pub first_of : (piece : List ℕ) (n room : ℕ) → take (min n room) piece ≡ take room (take n piece)
 first_of piece n room = elim (cases_lt room n) [
   | inl less ↦ (

@@ -15,7 +15,7 @@ abbrev pub HoldsText : List ℕ → After → Type 0
 HoldsText text (Compared comparison) = text ≡ comparison.text
 HoldsText text (Fed reader) = HasFed text reader × (most_lines reader ≡ most_script_lines)
 
--- the transcript with whose text the text is compared, or None if the text is read
+-- the transcript whose text is compared with the text after the script, or None if there is no comparison
 abbrev pub compared_with : After → Option (List (List SeenLine))
 compared_with (Compared comparison) = Some comparison.made
 compared_with (Fed reader) = None

@@ -1,4 +1,4 @@
--- The statuses with which a program ends, and what the sink got from a command that reads no input.
+-- The statuses with which a program ends, and the effects of a command that reads no input on the sink.
 use Rattle.std.specs.Prelude.{ℕ, ◌≡◌, ◌⊎◌, ⊤, List, Option}
 use Rattle.std.specs.Io.KnownBytes.{Appends, Keeps}
 use Rattle.io_edges.specs.Faults.{Rose}
@@ -16,8 +16,7 @@ code_of WriteFault = 4
 code_of Refused = 5
 code_of NoMemory = 6
 
--- what the sink, whose content was `held` before, has after a command with this status; `Of` holds for each right
--- output
+-- a command with this status changed the sink's content from `held` to `held_after`; `Of` holds for each right output
 abbrev pub EndsWith : (List ℕ → Type 0) → Status → Option (List ℕ) → Option (List ℕ) → Type 0
 EndsWith Of Done held held_after = (output : List ℕ) × Of output × Appends held held_after output
 EndsWith Of WriteFault held held_after = (output : List ℕ) × Of output × AppendsPrefix held held_after output
@@ -47,8 +46,8 @@ IsAnswered ReadFault = ⊥
 IsAnswered WriteFault = ⊥
 IsAnswered NoMemory = ⊥
 
--- at the end of the output, either the status and the sink's count of faults do not change; or an answer was put, the
--- sink failed to hand on the rest of it, and counted this fault
+-- at the end of the output, the status and the sink's count of faults stay the same. Or an answer was put, and the sink
+-- failed to hand on the rest of it and counted this fault; then the status is a write fault
 abbrev pub AtOutputEnd : Status → Status → ℕ → ℕ → Type 0
 AtOutputEnd status result faults faults_after =
     ((result ≡ status) × (faults_after ≡ faults))

@@ -1,10 +1,11 @@
--- The text that a source gave until it ended or was above a limit.
+-- The text that a source gave, up to the text's end or to one byte above a limit.
 use Rattle.std.specs.Prelude.{ℕ, ◌≡◌, ◌+◌, ◌≤◌, List, Option, length}
 use Rattle.tool_ends.specs.Pairs.{GivesNone}
 use Rattle.tool_ends.specs.Reads.{WasRead}
 use Rattle.tool_ends.specs.declared.pair.NotRead.{NotRead}
 
--- the source gave a text of `count` bytes, to its end or to one byte above the limit; `Has` holds for this text
+-- the source gave a text of `count` bytes: all that was left, or one byte more than the limit. `Has` holds for this
+-- text
 pub record GivesText (limit : ℕ) (left left_after : Option (List ℕ)) (Has : List ℕ → Type 0) (count : ℕ) : Type 0 where
   pub text : List ℕ
   pub read : WasRead limit left left_after text

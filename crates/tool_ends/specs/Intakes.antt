@@ -28,17 +28,18 @@ pub record IsFound (input : List ℕ) (script : Script) (text : After) : Type 0 
   pub within : length (front input) ≤ length input
   pub holds : HoldsText (following input) text
 
--- what was made of the script at the front of the input is right
+-- the result of reading the script at the front of the input is right
 abbrev pub IsOpened : List ℕ → Opened → Type 0
 IsOpened input (Found script text) = IsFound input script text
 IsOpened input (Faulty fault) = first_fault (front input) ≡ Some fault
 
--- `input` was taken. As long as it has no line `end`, all of it is kept; then its script is read
+-- `input` was taken. All of it is kept while it has no line `end`; once it has one, its script is read
 abbrev pub HasTaken : List ℕ → Intake → Type 0
 HasTaken input (Front bytes) = (input ≡ bytes.items) × (HasEndLine input → ⊥)
 HasTaken input (IsOpen opened) = HasEndLine input × IsOpened input opened
 
--- the script that was found, with the transcript with which the text after it is compared, if there is one
+-- the script that was found, and the transcript with whose text the text after the script is compared; None if there is
+-- no such transcript
 abbrev pub made_of : Opened → Option (Script × List (List SeenLine))
 made_of (Found script text) = option_map (λ made. (script, made)) (compared_with text)
 made_of (Faulty fault) = None
@@ -47,8 +48,8 @@ abbrev pub made_in : Intake → Option (Script × List (List SeenLine))
 made_in (Front bytes) = None
 made_in (IsOpen opened) = made_of opened
 
--- `input` was taken. If a transcript was made for its script, `Made`, which the maker guarantees, holds for the script
--- and this transcript
+-- `input` was taken. If a transcript was made for its script, the maker's guarantee `Made` holds for the script and
+-- this transcript
 pub record Fills (MayMake : Type 0) (Made : Script → List (List SeenLine) → Type 0) (input : List ℕ) (intake : Intake)
     : Type 0 where
   pub taken : HasTaken input intake

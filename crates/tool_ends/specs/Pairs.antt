@@ -40,7 +40,7 @@ pub record IsPair (input : List ℕ) (script : Script) (t : List (List SeenLine)
   pub is_script : IsScript script (front input)
   pub text : IsTranscriptText (following input) t
 
--- the first fault of an input, if it has one: it is too long, or its script has a fault
+-- the first fault of an input, if it has one: the input is too long, or its script has a fault
 abbrev pub pair_fault : List ℕ → Option ScriptFault
 pair_fault input =
     if nat_lt most_input (length input) then Some (record { line = 0; kind = TooLong }) else first_fault (front input)
@@ -55,8 +55,8 @@ pub record LacksLines (script : Script) (text : List ℕ) : Type 0 where
   pub is_text : IsTranscriptText text lines
   pub fails : HasLines script lines → ⊥
 
--- the input is a script, and the text after it fails clause 1, since it is not that of a transcript; or it fails clause
--- 2, since its lines are not those that the script requires
+-- the text after the input's script fails the clause `number`. It fails clause 1 if it is not the text of a transcript.
+-- It fails clause 2 if it is, but the transcript's lines are not those that the script requires
 pub record FailsAsText (input : List ℕ) (number : ℕ) : Type 0 where
   pub short : length input ≤ most_input
   pub script : Script
@@ -98,8 +98,8 @@ GivesScript left left_after script =
 abbrev pub GivesPair : Option (List ℕ) → Option (List ℕ) → Script → List (List SeenLine) → Type 0
 GivesPair left left_after script t = (input : List ℕ) × WasRead most_input left left_after input × IsPair input script t
 
--- the source gave an input, and `Is` holds for this input and the reason of its refusal. Or the source failed or memory
--- ran out, after at most `most` + 1 bytes were taken
+-- the source gave an input, and `Is` holds for this input and the reason why it was refused. Or the source failed or
+-- memory ran out, after at most `most` + 1 bytes were taken
 abbrev pub GivesNone : ℕ → (List ℕ → NotRead → Type 0) → Option (List ℕ) → Option (List ℕ) → NotRead → Type 0
 GivesNone most Is left left_after ReadFault = ConsumesUpTo (most + 1) left left_after
 GivesNone most Is left left_after (Refused fault) =
@@ -133,7 +133,7 @@ pub record TellsFault (input output : List ℕ) : Type 0 where
   pub first : pair_fault input ≡ Some fault
   pub line : output ≡ refusal_line fault
 
--- the answer to an input that is not read, for this reason: the output, and the status
+-- `status` and `output` are right for an input that was not read for this reason
 abbrev pub RefusalOf : NotRead → Status → List ℕ → Type 0
 RefusalOf ReadFault status output = ⊥
 RefusalOf (Refused fault) status output = (status ≡ IsRefused) × (output ≡ refusal_line fault)
@@ -141,7 +141,8 @@ RefusalOf NoTranscript status output = (status ≡ IsNo) × (output ≡ no_line 
 RefusalOf TooManyLines status output = (status ≡ IsNo) × (output ≡ no_line 2)
 RefusalOf NoMemory status output = ⊥
 
--- what a command that refuses an input for this reason leaves: its status, and the sink's content before and after
+-- a command that refused an input for this reason ended with this status, and changed the sink's content from `held` to
+-- `held_after`
 abbrev pub RefusalEnds : NotRead → Status → Option (List ℕ) → Option (List ℕ) → Type 0
 RefusalEnds ReadFault status held held_after = (status ≡ Unread) × Keeps held held_after
 RefusalEnds (Refused fault) status held held_after = WritesEnds (RefusalOf (Refused fault)) status held held_after

@@ -1,4 +1,4 @@
--- What a command that reads its input leaves: its status, the rest of the source, and the sink's content.
+-- The effects of a command that reads its input: its status, the rest of the source, and the sink's content.
 use Rattle.std.specs.Prelude.{ℕ, ◌≡◌, ◌+◌, ◌≤◌, List, Option, IfSome, length, take}
 use Rattle.std.specs.Io.KnownBytes.{Appends, Consumes, IsAtEnd, Keeps}
 use Rattle.io_edges.specs.Pieces.{AppendsPrefix, ConsumesUpTo}
@@ -10,7 +10,7 @@ use Rattle.tool_ends.specs.declared.status.Status.TheVariants.{Done, No, Usage, 
 abbrev pub SomeAnswer : (Status → List ℕ → Type 0) → List ℕ → Type 0
 SomeAnswer Of output = (status : Status) × IsAnswered status × Of status output
 
--- the only right outputs have the status Done, and `Is` holds for them
+-- an output is right exactly if the status is Done and `Is` holds for the output
 abbrev pub OnlyDone : (List ℕ → Type 0) → Status → List ℕ → Type 0
 OnlyDone Is Done output = Is output
 OnlyDone Is No output = ⊥

@@ -14,13 +14,14 @@ tee_sink tee = tee.sink
 abbrev pub keeps_all : {S : Type 0} → TeeSource S → Bool
 keeps_all tee = tee.is_whole
 
--- `text` was taken from the tee, which has kept at most `most` of the first bytes of `text`
+-- `text` was taken from the tee. The tee has kept a prefix of `text`, of at most `most` bytes
 pub record HasGiven {S : Type 0} (text : List ℕ) (tee : TeeSource S) : Type 0 where
   pub following : List ℕ
   pub front : text ≡ tee.front.items ++ following
   pub whole : IsTrue tee.is_whole → text ≡ tee.front.items
   pub few : length tee.front.items ≤ tee.most
 
--- `piece` was the last piece put to the tee, which has kept its first 32 bytes, or all if it is shorter
+-- `piece` is the last piece that was put to the tee. The tee has kept the first 32 bytes of `piece`, or all of them if
+-- there are fewer
 abbrev pub HasGot : {K : Type 0} → List ℕ → TeeSink K → Type 0
 HasGot piece tee = tee.last.items ≡ take 32 piece

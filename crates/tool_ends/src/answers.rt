@@ -35,8 +35,8 @@ pub fn put_line<K: Sink>(status: Status, line: &ShortLine, sink: &mut K) -> Stat
     put_answer(status, line.as_str().as_bytes(), sink)
 }
 
-/// Writes the answer for an input that was not read as a script with a transcript after it, for the reason `why`.
-/// Returns the status.
+/// Writes the answer to an input that was not read; `why` is the reason. Returns the status. After a read fault, or if
+/// memory ran out, it writes nothing.
 pub fn put_refusal<K: Sink>(why: &NotRead, sink: &mut K) -> Status
     ensures ends { RefusalEnds why.now result (K.held sink.old) (K.held sink.new) }
     ensures memory { result ≡ Status.NoMemory → why.now ≡ NotRead.NoMemory }

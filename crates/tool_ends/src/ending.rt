@@ -1,4 +1,4 @@
-//! The end of a program's output, at which the sink hands on what it kept back.
+//! The end of a program's output: the sink hands on all bytes that it kept back.
 ghost use Rattle.std.specs.Prelude.{◌≡◌, []};
 ghost use Rattle.std.specs.Io.KnownBytes.{Keeps};
 ghost use Rattle.tool_ends.specs.Ends.{AtOutputEnd, IsAnswered};

@@ -49,7 +49,8 @@ impl TextTaker<NoMaker> for ScriptReader {
 ///
 /// # Errors
 ///
-/// `ReadFault` if the source failed, or `NoMemory`. The bytes that were taken from the source are lost.
+/// `ReadFault` if the source failed, and `NoMemory` if memory ran out. The bytes that were taken from the source are
+/// lost.
 pub(crate) fn feed_to_limit<S: Source, M, F: TextTaker<M>>(
     alloc: Global,
     source: &mut S,

@@ -49,7 +49,8 @@ impl After {
         }
     }
 
-    // Takes the next piece of the text. As soon as the text differs from the transcript's text, it is fed to a reader.
+    // Takes the next piece of the text. As soon as the text differs from the transcript's text, the text is fed to a
+    // reader.
     pub(crate) fn take(&mut self, alloc: Global, piece: &[u8]) -> Result<(), AllocError>
         requires short { (text : List ℕ) × HoldsText text self.old × (length text + length piece.now ≤ 2 ^ 31) }
         ensures more { OnOk result ((text : List ℕ) → HoldsText text self.old
@@ -83,8 +84,8 @@ impl After {
     ///
     /// # Errors
     ///
-    /// `NoTranscript` if the text is not that of a transcript. `TooManyLines` if the transcript has more lines than any
-    /// script's transcript. `NoMemory` if there is no memory for the transcript.
+    /// `NoTranscript` if the text is not the text of a transcript. `TooManyLines` if the transcript has more lines than
+    /// any script's transcript. `NoMemory` if there is no memory for the transcript.
     pub fn transcript(self, alloc: Global) -> Result<Transcript, NotRead>
         requires short { (text : List ℕ) × HoldsText text self × (length text ≤ 2 ^ 31) }
         ensures read { (text : List ℕ) → HoldsText text self → IfOk result (λ t. IsTranscriptText text t) }

@@ -13,16 +13,16 @@ use event_script::{Script, ScriptError, read_front};
 use key_names::ScriptFault;
 use std::alloc::{AllocError, Global};
 
-/// What was made of the script at the front of an input, when its last line had come.
+/// The result of reading the script at the front of an input, after the script's last line or the end of the input.
 #[derive(Drop)]
 pub(crate) enum Opened {
     /// The script was read; `After` is the text after it.
     Script(Script, After),
-    /// The script has a fault; this is its first.
+    /// The script has a fault; this is its first fault.
     Faulty(ScriptFault),
 }
 
-/// What was made of the part of an input that was taken so far.
+/// An input, as far as it was taken.
 #[derive(Drop)]
 pub(crate) enum Intake {
     /// The last line of the script has not come yet, so all bytes of the input are kept.

@@ -4,10 +4,11 @@
 //!
 //! [`read_script`] reads a script, and [`pair::read_pair`] reads a script with a transcript after it. If the text is
 //! faulty, they return the reason, and [`put_refusal`] writes the answer for this reason. [`pair::read_apart`] compares
-//! the text after the script with the text of a transcript that a [`maker::Maker`] makes. Once the two differ, it reads
-//! the text after the script. [`put_answer`], [`put_line`] and [`end_output`] write an answer and hand it on. For a
-//! program that shows the faulty line, a [`tee::TeeSource`] keeps the front of the text that was taken, and a
-//! [`tee::TeeSink`] keeps the last piece that was put. [`refusal::fault_in`] finds the fault in the answer.
+//! the text after the script with the text of a transcript that a [`maker::Maker`] makes. If the two texts differ, it
+//! reads the text after the script instead. [`put_answer`], [`put_line`] and [`end_output`] write an answer and hand it
+//! on. For a program that shows the faulty line, a [`tee::TeeSource`] keeps the front of the text that was taken. A
+//! [`tee::TeeSink`] keeps the first bytes of the last piece that was put. [`refusal::fault_in`] finds the fault in the
+//! answer.
 //!
 //! # Example
 //!
@@ -31,8 +32,8 @@
 //!
 //! # Tested only
 //!
-//! That [`refusal::fault_in`] finds the fault in each refusal line, that [`tee::TeeSource::line`] returns the line with
-//! the given number, and the texts on standard error: `.ci/program_checks`.
+//! `.ci/program_checks` tests that [`refusal::fault_in`] finds the fault in each refusal line, and that
+//! [`tee::TeeSource::line`] returns the line with the given number. It also tests the texts on standard error.
 #![tactic(auto)]
 
 mod answers;

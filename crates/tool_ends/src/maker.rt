@@ -1,4 +1,4 @@
-//! The maker of a transcript, with which the text after a script is compared before it is read.
+//! Makers of transcripts. The text after a script is compared with the text of the transcript that a maker made.
 ghost use Rattle.std.specs.Prelude.{◌≡◌, ⊤, IfSome, None};
 ghost use Rattle.key_names.specs.Texts.ScriptGrammar.{WellFormed};
 
@@ -16,7 +16,7 @@ pub trait Maker {
     /// The maker's precondition for making transcripts.
     ghost may_make: { Self → Type 0 };
 
-    /// What the maker guarantees of each transcript that it makes for a script.
+    /// The maker's guarantee for each transcript that it makes for a script.
     ghost made: { Self → ScriptValue → List (List SeenLine) → Type 0 };
 
     /// Makes a transcript for the script, or returns `None` if the text after the script is to be read without a

@@ -48,8 +48,8 @@ impl CommandForm<'_> {
         Some((first, second, third))
     }
 
-    /// The three numbers that follow the command's name in `words`. None if the words are not this name and three
-    /// numbers, each within its bounds.
+    /// The three numbers that follow the command's name in `words`. Returns `None` if the words are not this name and
+    /// three numbers, each within its bounds.
     pub fn numbers(&self, words: &[String]) -> Option<(u32, u32, u32)>
         ensures found { IfSome result (λ n. Asks self.now (map string_bytes words.now) n.0 n.1 n.2) }
         ensures only { (a b c : ℕ) → Asks self.now (map string_bytes words.now) a b c → result ≡ Some (a, b, c) }

@@ -25,7 +25,7 @@ pub enum NotRead {
     ReadFault,
     /// The input is too long, or its script has a fault; this is the input's first fault.
     Refused(ScriptFault),
-    /// The text after the script is not that of a transcript: clause 1 fails.
+    /// The text after the script is not the text of a transcript: clause 1 fails.
     NoTranscript,
     /// The text after the script is a transcript with more lines than any script's transcript: clause 2 fails.
     TooManyLines,
@@ -51,7 +51,7 @@ impl From<AllocError> for NotRead {
 
 /// The script that a source gives, and all of the text after it. The source is read to its end, or to one byte more
 /// than is allowed. If the maker makes a transcript of the script, the text is compared with that transcript's text as
-/// it comes, and is not kept as long as the two texts are equal. Any other text is read line by line. After the piece
+/// it comes. It is not kept as long as the two texts are equal. Any other text is read line by line. After the piece
 /// with the script's last line, only the lines that were read and one incomplete line are kept.
 ///
 /// # Errors
@@ -82,8 +82,8 @@ pub fn read_apart<S: Source, M: Maker>(
     intake.finish(alloc, maker)
 }
 
-/// The script that a source gives, and the transcript that is all of the text after it. The source is read as by
-/// [`read_apart`], without a comparison.
+/// The script that a source gives, and the transcript that is all of the text after the script. The source is read as
+/// by [`read_apart`], without a comparison.
 ///
 /// # Errors
 ///

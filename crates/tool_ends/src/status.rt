@@ -9,7 +9,7 @@ pub enum Status {
     Done,
     /// A transcript fails a clause, and the line with the clause's number was written.
     No,
-    /// The words of the command line have none of its forms. The program read and wrote nothing.
+    /// The command line has none of the forms that the program accepts. The program read and wrote nothing.
     Usage,
     /// The source failed. Nothing was written.
     ReadFault,

@@ -1,5 +1,5 @@
-//! For the message of a refusal: a source that keeps the first bytes that were taken from it, and a sink that keeps the
-//! last piece that was put to it.
+//! A source that keeps the first bytes that were taken from it, and a sink that keeps the first bytes of the last piece
+//! that was put to it. Both are for the message of a refusal.
 ghost use Rattle.std.specs.Prelude.{◌≡◌, ◌<◌, ◌≤◌, ◌++◌, [], ℕ, List, length, take, IfOk, IfSome, IsSome, IsTrue, OnOk, OnErr};
 ghost use Rattle.std.specs.Io.{ReadsAtMost, WritesAtMost};
 ghost use Rattle.std.specs.Io.KnownBytes.{Keeps, Appends, Consumes, IsAtEnd};
@@ -13,7 +13,8 @@ use std::alloc::Global;
 /// The most bytes of a piece that a tee sink keeps. A line `refused LINE KIND` is shorter.
 const MOST_GOT: usize = 32;
 
-/// A source that keeps a copy of the first bytes that were taken from it, or of fewer if there is no memory for more.
+/// A source that keeps a copy of the first bytes that were taken from it: at most `most` bytes, or fewer if there is no
+/// memory for more.
 #[derive(Drop)]
 pub struct TeeSource<S: Source + Drop> {
     source: S,

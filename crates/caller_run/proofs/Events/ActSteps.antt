@@ -68,8 +68,8 @@ module _ (set : Setting) where
       (part_went set.caller a.event 0 v w k.did.made_steps k.did.recorded.went)
 
   module _ (point : Point) where
-    -- if the acts at `point` took the pass's view from v to w, and none of them was done before, the pass made exactly
-    -- the steps of these acts
+    -- suppose that the acts at `point` took the pass's view from v to w, and that none of them was done before. Then
+    -- the pass made exactly the steps of these acts
     pub acts_part : (asks : List Ask) (v w : View) (xs ys : List ActOutcome) → ActsAt set point asks v w xs ys →
         Untouched point asks xs → Part set.caller v w (act_items asks ys point)
     acts_part [] v w [] [] k untouched = part_nothing set.caller v w k

@@ -29,8 +29,8 @@ use Rattle.rng_core.proofs.ActRuns.{Meant, AllMeant}
 use Rattle.key_names.proofs.Transcripts.QuietForms.{sys, form_samples}
 
 module _ (set : Setting) (w : View) where
-  -- if P holds for the line and the meaning of any single act that has its meaning (`Meant`), it holds for those of
-  -- each act
+  -- suppose that P holds for the line and the meaning of any act for which `Meant` holds. If `AllMeant` holds for a
+  -- list of acts, P holds for the line and the meaning of each of these acts
   module _ (lists : Lists) where
     pub each_act : (P : SeenLine → LineMeaning → Type 0) →
         ((a : Ask) (z : ActOutcome) → Meant set w a z → P (act_line set a z) (outcome_line lists z)) →

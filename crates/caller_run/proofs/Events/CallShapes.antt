@@ -40,8 +40,8 @@ pub record Rekeys (steps : List HostStep) : Type 0 where
   pub steps_are : steps ≡ system_call 32 0 (read key visit) ∷ rest
   pub copies : Copies rest
 
--- `steps` are those of a call after the point Written of its first attempt, if the read of a new key failed: that
--- system call, and a last one
+-- `steps` are those of a call after the point Written of its first attempt, if the read of a new key failed: the failed
+-- system call, and a last system call
 pub record Fails (steps : List HostStep) : Type 0 where
   pub errno : Errno
   pub n : ℕ
@@ -93,8 +93,8 @@ module _ (n : ℕ) where
             ∙ ap end_of last.attempt_is;
       }
 
-  -- if `steps` are those of an attempt after its point Start, the first of `steps ++ more` that the caller makes itself
-  -- is a look
+  -- if `steps` are those of an attempt after its point Start, the first step of `steps ++ more` that the caller itself
+  -- makes is a look
   start_looks : (c published : ℕ) (s : VgetrandomState) (steps more : List HostStep) (attempt : Attempt) →
       FromStart n c published s steps attempt → LooksFirst (steps ++ more)
   start_looks c published s steps more attempt k = go (s.generation == published) k

@@ -113,8 +113,8 @@ asks_nothing {event = event} {m = m} can is says = by_answer {steps = 0} refl sa
       (quiet_fulfil (setting_of m.set) event is);
 })
 
--- if a caller makes a site from its pass and setting, and the call of an event is made at this site, the caller made
--- the call (`Called`)
+-- suppose that a caller makes a site from its pass and setting, and that the call of an event is made at this site.
+-- Then the caller made the call (`Called`)
 pub called : {event : Event} {m n : Site} {said : Reply} {served : List ℕ} {states : Box States} {p : Pass}
     {steps : List Step} → p ≡ n.pass.now → steps ≡ n.trace.now → m.trace.now ≡ [] → Asked event said served m n →
     Called m.lanes.now event (record { pass = m.pass.now; set = m.set; states = states })

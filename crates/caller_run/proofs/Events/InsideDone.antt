@@ -35,8 +35,8 @@ use Rattle.caller_run.proofs.Events.InsidePath.{inside_part}
 use Rattle.caller_run.proofs.Orders.PartItems.{Part}
 use Rattle.caller_run.proofs.Events.VreadDone.{vread_quiet}
 
--- suppose that the read took the pass's view from v to w, and that its line has the steps `steps`. None of the acts
--- inside was done before the read
+-- suppose that the read took the pass's view from v to w, and that the read's line has the steps `steps`. None of the
+-- acts inside was done before the read
 module _ (set : Setting) (v w : View) (s : CallerState) (n flags : ℕ) (t : VgetrandomState) (answer : Answer)
     (shown : Shown)
     (word : Word) (steps : List Step) (asks : List Ask) (xs zs : List ActOutcome) (same : s.setting ≡ setting_of set)

@@ -82,7 +82,7 @@ key_cut event n (a ∷ b ∷ c ∷ more) rest k begins =
     go front marks true e parts = ap (λ (cut : List Item × List Item). (front ++ cut.0, cut.1)) parts
     go front marks false e parts = absurd (cc e)
 
--- if the third of `items` is not a visit, they contain no steps for a new key, and the cut is at the front
+-- if the third of `items` is not a visit, `items` contain no steps for a new key, and the cut is at the front
 pub plain_cut : (items : List Item) → BeginsUnmarked (drop 2 items) → AreParts (cut_rekey items) [] items
 plain_cut [] begins = refl
 plain_cut (a ∷ []) begins = refl
@@ -147,8 +147,8 @@ module _ (lists : Lists) where
       ∙ ap (λ (l : List Effect). false ∷ map is_visit l) f.effects_are)
       (refl, tt)
 
-  -- if some steps begin with a look, this look finds at least the generation `low`, the largest one seen before the
-  -- steps
+  -- if some steps begin with a look, this look finds at least the generation `low`, the largest generation seen before
+  -- the steps
   look_seen : (w : View) (low high g : ℕ) (rest : List Effect) (made_steps : List MadeStep) → Sees w low made_steps high →
       effects_of lists (map step_of made_steps) ≡ look_effect g ∷ rest → low ≤ g
   look_seen w low high g rest [] sees e = absurd (cc e)
@@ -158,8 +158,8 @@ module _ (lists : Lists) where
       let no : true ≡ false = sym (visit_at mark.lane mark.place)
       ∙ ap (λ (l : List Effect). elim l as (λ _. Bool) [ [] ↦ true | d ∷ ds ↦ is_visit d ]) e in absurd (cc no)
 
--- if a generation was found before a system call for a new key, the call reads from the CPU, so its steps are those for
--- a new key (`IsKeySteps`)
+-- if a generation was found before a system call for a new key, this call reads from the CPU. So `IsKeySteps` holds for
+-- its steps
 pub key_call : (set : Setting) (answer : SystemAnswer) (l m : Moment)
     (k : Makes (SystemCall (setting_of set) 32 0 answer) set l m)
     (lanes : ℕ) (visits : ℕ → List Visit) → Continues lanes m.view visits → 1 ≤ floor l.view →

@@ -43,8 +43,8 @@ use Rattle.rng_core.specs.declared.setting.Setting.{Setting}
 use Rattle.caller_run.proofs.Events.InsideDone.{inside_done}
 use Rattle.caller_run.proofs.Events.VreadDone.{vread_done}
 
--- `StateRead` still holds if the pass, the steps and the outcomes, which were lent to the read and came back, are
--- replaced by equal values
+-- the pass, the steps and the outcomes were lent to the read, and came back. If equal values replace them, `StateRead`
+-- still holds
 pub lent_read : {t : Lanes} {n flags : ℕ} {c : Caller} {set : Setting} {states : Box States} {said : Reply} {served : List ℕ}
     {asks : List Ask} {p q : Pass} {steps recorded : List Step} {zs left : List ActOutcome} → p ≡ q → steps ≡ recorded →
     zs ≡ left →
@@ -74,7 +74,7 @@ pub record IsAfter (t : Lanes) (c d : Caller) (said : Reply) (served : List ℕ)
 
 module _ {t : Lanes} {c d : Caller} {said : Reply} {served : List ℕ} {before : List Step} {st left : VgetrandomState}
     {ended : Result (Unit {0}) Errno} (b : IsAfter t c d said served before st left ended) where
-  -- if P holds for `st` and the result of the read, it holds for the caller's current state and the reply `said`
+  -- if P holds for `st` and the result of the read, P holds for the caller's current state and the reply `said`
   emitted_by : (P : VgetrandomState → Answer → Shown → List Step → Type 0) →
       P st (result_answer ended) (bytes_or_none (given ended served)) before →
       P (current_state (conform c)) said.answer (shown_by served said.shows) []

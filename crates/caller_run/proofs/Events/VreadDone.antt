@@ -89,7 +89,7 @@ module _ (fast : ℕ → ℕ → FastPool) where
         go true h = after_look h.0 h.1 h.2 h.3
         go false h = by_call_quiet h
 
--- suppose that the read took the pass's view from v to w, and that its line has the steps `steps`
+-- suppose that the read took the pass's view from v to w, and that the read's line has the steps `steps`
 module _ (set : Setting) (v w : View) (s : CallerState) (n flags : ℕ) (t : VgetrandomState) (answer : Answer)
     (shown : Shown)
     (word : Word) (steps : List Step) (same : s.setting ≡ setting_of set)

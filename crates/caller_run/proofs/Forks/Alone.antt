@@ -66,7 +66,7 @@ module _ {t : Lanes} {m : ℕ} {begun : Start} {events rest : List Event} {c d e
         gone = gone_call is k on g.gone;
       }
 
-  -- if the only caller goes on and reads out of its current state, it goes on after this read
+  -- if the only caller goes on (`GoesAlone`) and reads out of its current state, it goes on after this read
   read_goes : {len flags : ℕ} → StateRead t len flags c d said served steps [] [] → GoesOn (Vread len flags) d e →
       GoesAlone t m begun events (Vread len flags ∷ rest) c lines →
       GoesAlone t m begun events rest e (lines ++ line_of d.set VreadWord served said steps ∷ [])
@@ -104,7 +104,7 @@ event_goes (Inside point act) d said served steps k on g = absurd g.once.0
 event_goes (Fork child) d said served steps k on g = absurd g.once.0
 event_goes event d said served steps k on g = call_goes tt k on g
 
--- the event's call left the caller's setting as it was, and its steps and its data fit a line
+-- the event's call left the caller's setting as it was, and the steps and the data of the call fit a line
 pub record HasCalled (event : Event) (c d : Caller) (said : Reply) (steps : List Step) : Type 0 where
   pub set : d.set ≡ c.set
   pub steps_fit : AllByRecursion StepFits steps

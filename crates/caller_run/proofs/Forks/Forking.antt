@@ -232,7 +232,7 @@ module _ (set : Setting) (v u w : View) (s : CallerState) (child : ℕ) (line : 
   }
 
 -- suppose that a caller goes on after a fork. The caller is c before the fork, d after the fork's visits, and e when it
--- goes on. The child starts with the caller's setting, and its pass was split off after the first visit
+-- goes on. The child starts with the caller's setting, and the child's pass was split off after the first visit
 module _ {begun : Start} {events rest : List Event} {child : ℕ} {c : Caller} {lines : List SeenLine}
     {asks : List Ask} {kids : List Start} (d e : Caller) (u : View) (steps : List Step)
     (g : HasAdvanced begun events (Fork child ∷ rest) c lines asks kids) (set : d.set ≡ c.set)

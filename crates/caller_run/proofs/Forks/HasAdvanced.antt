@@ -68,7 +68,8 @@ module _ {begun : Start} {events rest : List Event} {event : Event} {c : Caller}
         word_is = refl;
       }
 
--- suppose that the caller made an event. It is c before the event, d after the event's call, and e when it goes on
+-- suppose that the caller made an event. The caller is c before the event, d after the event's call, and e when it goes
+-- on
 module _ {begun : Start} {events rest : List Event} {event : Event} {c e : Caller} {lines : List SeenLine}
     {asks : List Ask} {kids : List Start}
     (d : Caller) (g : HasAdvanced begun events (event ∷ rest) c lines asks kids) (set : d.set ≡ c.set)
@@ -148,7 +149,7 @@ module _ {begun : Start} {events rest : List Event} {event : Event} {t : Lanes} 
       (fit_more begun.caller c.set.event events event rest lines line (own_line d g k.set said served steps) g.fit)
       (idle_more begun.caller lines line asks g.idle)
 
--- if a caller whose events are all made makes its last visit, its run has ended (`RunEnded`)
+-- if a caller has made all of its events, and makes its last visit, its run has ended (`RunEnded`)
 pub gone_all : {begun : Start} {events : List Event} {c : Caller} {lines : List SeenLine} {asks : List Ask}
     {kids : List Start}
     (d : Caller) (served : List ℕ) (said : Reply) (steps : List Step) → d.set ≡ c.set → said.answer ≡ Done →

@@ -71,16 +71,16 @@ joined_nothing v = record {
   made = λ lane low. omega arith;
 }
 
--- at the end of the run `r`, a sum over the places of the pass's own visits in a lane equals the sum over those of the
--- marks in the lines of `r`
+-- the pass of the run `r` has made its last visit. In each lane, a sum over the places of its own visits equals the sum
+-- over the places of the marks in the lines of `r`
 pub record OwnPlaces (r : Run) : Type 0 where
   pub placed : (f : ℕ → ℕ) (lane : LaneId) → index_of lane < length r.end.lanes →
       sum_by f (at (index_of lane) r.end).places ≡ marked_by f lane r
   pub made : (lane : LaneId) → index_of lane < length r.end.lanes →
       (at (index_of lane) r.end).made ≡ marked_by (λ p. 1) lane r
 
--- suppose that a pass, which had joined the passes of the runs `xs`, joins the pass of run `r`, which had joined those
--- of the runs `ys`
+-- suppose that a pass, after it joined the passes of the runs `xs`, joins the pass of the run `r`. The pass of `r` had
+-- joined the passes of the runs `ys`
 module _ (v w d : View) (r : Run) (xs ys : List Run) (mine : Joined v w xs) (theirs : Joined r.end d ys)
     (own : OwnPlaces r) (alike : length r.end.lanes ≡ length v.lanes) where
   long : length w.lanes ≡ length d.lanes

@@ -1,4 +1,4 @@
--- The run of a caller with all its descendants: the parts of the run make up `RanSo`, and caller 0's run fulfils the
+-- The run of a caller with all its descendants: the parts of the run make up `RanSo`. Caller 0's run fulfils the
 -- premises of the law of all callers.
 use Rattle.std.proofs.Common.{◌≡◌, ℕ, ◌+◌, ◌*◌, ◌^◌, ◌<◌, List, [], ◌∷◌, ◌++◌, length, refl, sym, ap, ◌∙◌, subst, arith}
 use Rattle.std.specs.List.{AllByRecursion}
@@ -35,7 +35,7 @@ ran_end script x e same = record {
 }
 
 -- a fork: u is the view of the parent's pass after the fork's visit, and z is its view when the parent goes on. If
--- `RanOn` holds from z on, and `RanSo` holds for the child, then `RanOn` holds for the whole
+-- `RanOn` holds from z on, and `RanSo` holds for the child, then `RanOn` holds from x on
 pub ran_fork : (script : Script) (x u z e w d : View) (kid : Start) (starts : List Start) (xs : List Run) (own : Run)
     (ys : List Run) → SameHalves x u → SameHalves (halved u) z → RanOn script z e w starts xs →
     kid.view ≡ split_off u → RanSo script kid d own ys → length own.end.lanes ≡ length e.lanes →
@@ -62,7 +62,7 @@ ran_so script begun w own runs is has on = record {
   share = on.share;
 }
 
--- caller 0 ran on a table with all its descendants; its pass has seen all of the final lists
+-- caller 0 ran on a table, with all its descendants; the pass of caller 0 has seen all of the final lists
 module _ (script : Script) (ok : WellFormed script) (root : Start) (w : View) (own : Run) (runs : List Run)
     (ran : RanSo script root w own runs) (new : MadeNothing root.view)
     (first : (root.caller ≡ 0) × (root.set ≡ first_setting)) (f : Forest)
@@ -80,8 +80,8 @@ module _ (script : Script) (ok : WellFormed script) (root : Start) (w : View) (o
   low = numbers_low (own ∷ runs)
       (subst (AllByRecursion (λ x. x < length script.callers)) (sym same) (below script ok f are))
 
-  -- the pass has joined all other passes, so the lists that w has seen begin with the visits that each joined pass had
-  -- seen
+  -- the pass has joined all other passes. So the visits that each joined pass had seen are prefixes of the lists that
+  -- the pass has seen
   hears : Hears (known_of w) w
   hears = record {
     known = λ lane near. begins_refl (known_of w lane);

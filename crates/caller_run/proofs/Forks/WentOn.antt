@@ -71,7 +71,7 @@ plain_event e other = tt
 pub as_slices : (P : ℕ → ℕ → Type 0) (a b c d : ℕ) → c ≡ a → d ≡ b → P a b → P c d
 as_slices P a b c d first second here = subst (λ (n : ℕ). P n d) (sym first) (subst (P a) (sym second) here)
 
--- the pass was not split between c and d, if no caller was forked between them
+-- if no caller was forked between c and d, the pass was not split between them
 gone_halves : {begun : Start} {events es rest : List Event} {c d : Caller} {ls ls' : List SeenLine} {xs ys : List Ask}
     {kids : List Start} → HasAdvanced begun events es c ls xs kids → HasAdvanced begun events rest d ls' ys kids →
     SameHalves (view c.pass) (view d.pass)

@@ -79,7 +79,7 @@ same_lane (CpuLane c) PoolLane = grind (arith, nat_tests)
 same_lane (CpuLane c) BaseLane = grind (arith, nat_tests)
 same_lane (CpuLane c) (CpuLane d) = same_lane_number c d
 
--- suppose that place p of a lane has the weight w p
+-- suppose that place p of a lane has the weight `w p`
 module _ (w : ℕ → ℕ) where
   abbrev pub place_of : Mark → ℕ
   place_of mark = mark.place
@@ -127,7 +127,7 @@ module _ (w : ℕ → ℕ) where
           (places_in (index_of lane) (made_steps_of numbered_steps))
           ∙ (λ i. sym (sum_one (in_lane lane) (record { mark = mark; who = maker caller d.event d.number })) i + same i)
 
-  -- the sum of w over a lane's places is the same for the marks of the lines and for the caller's steps
+  -- the sum of w over the places of a lane's marks in the lines equals the sum over the caller's own steps
   pub lane_weight : (lane : LaneId) (caller : ℕ) (lines : List SeenLine) (numbered_steps : List NumberedStep) →
       AllByRecursion (IsOfCaller caller) lines →
       ((f : Item → ℕ) → sum_by f (items_of numbered_steps) ≡ sum_by f (lines_items lines)) →

@@ -69,7 +69,7 @@ none_beyond lanes visits lane (by ∷ marks) beyond all =
         let low = here.1 in absurd (omega arith)
     go false is here rest = rest
 
--- suppose that a caller made these steps, and that the view w has seen all final lists
+-- suppose that a caller made these steps, and that the view w records each visit among them (`Stood`)
 module _ (caller : ℕ) (w : View) (numbered_steps : List NumberedStep)
     (stood : AllByRecursion (Stood w caller) numbered_steps) where
   -- each mark of the item is the mark of a visit

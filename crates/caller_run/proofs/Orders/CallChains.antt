@@ -87,7 +87,8 @@ calls_done_then caller m n u v w s t r calls call a b = record {
       (b.samples lanes visits callers c);
 }
 
--- the same for one more call that forks no caller: if `CallDone` holds for it, the invariant holds with that call added
+-- if the invariant holds for `calls`, and `CallDone` holds for one more call, which forks no caller, the invariant
+-- holds with that call added
 pub calls_done_plainly : (caller m : ℕ) (u v w : View) (s t r : CallerState) (calls : List Call) (call : Call) →
     CallsDone caller m u v s t calls → CallDone caller v w t r call → CallsDone caller m u w s r (calls ++ call ∷ [])
 calls_done_plainly caller m u v w s t r calls call a b =

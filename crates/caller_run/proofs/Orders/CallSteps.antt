@@ -58,7 +58,7 @@ no_late items acts e f =
     no_steps cut.0 cut.1 (items_at_point acts Serve) (items_at_point acts End) front e f
     ∙ ap (λ (l : List Item). front ++ l) (sym (rekey_whole (drop 2 items)))
 
--- if no act has steps, the steps of the vread are exactly those of its own line
+-- if no act has steps, the steps of the vread are exactly the steps of its own line
 pub own_items : (items : List Item) (acts : List BoundAct) → ((p : Point) → items_at_point acts p ≡ []) →
     vread_items items acts ≡ items
 own_items items acts none =
@@ -74,7 +74,7 @@ module _ (f : Item → ℕ) where
   abbrev weight : List Item → ℕ
   weight items = sum_by f items
 
-  -- the weight at `point` of an act at point p with weight w: w if the two points are the same, and otherwise 0
+  -- the weight that an act at point p with weight w adds at `point`: w if p is `point`, and otherwise 0
   abbrev weight_at : Point → ℕ → Point → ℕ
   weight_at p w point = cond (is_same_point p point) w 0
 
@@ -140,7 +140,7 @@ module _ (P : Item → Type 0) where
   abbrev Each : List Item → Type 0
   Each items = AllByRecursion P items
 
-  -- P holds for each step of the acts at a point: for those of `acts`, and for those of `line`, whose act is at point p
+  -- P holds for each step that acts make at `point`. The acts are `acts`, and one act at point p with the line `line`
   abbrev At : List BoundAct → SeenLine → Point → Point → Type 0
   At acts line p point =
       Each (if is_same_point p point then line_items line ++ items_at_point acts point else items_at_point acts point)

@@ -58,7 +58,7 @@ ran_went caller event n v w made_steps went = let same = deals_from event n made
   stood = stood_from w caller event n made_steps went.conform;
 }
 
--- between a view and itself the pass made no step
+-- with no step, a pass goes from a view to the same view
 pub ran_nothing : (caller : ℕ) (v : View) → Ran caller v v []
 ran_nothing caller v = record {
   same = record { first = refl; share = refl; halvings = omega arith; sized = refl };

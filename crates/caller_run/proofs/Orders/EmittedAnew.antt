@@ -29,8 +29,7 @@ anew_long lines [] acts = refl
 anew_long lines (a ∷ asks) [] = refl
 anew_long lines (a ∷ asks) (l ∷ acts) = anew_long (slice_set lines a.event l) asks acts ∙ length-set lines a.event l
 
--- if each waiting act has a line among `lines`, replacing the lines of these acts leaves the lines `more` unchanged,
--- which come after `lines`
+-- if each waiting act has a line among `lines`, replacing these lines leaves `more`, the lines after `lines`, unchanged
 pub anew_front : (lines more : List SeenLine) (asks : List Ask) (acts : List SeenLine) → AreEmitted (length lines) asks →
     emitted_anew (lines ++ more) asks acts ≡ emitted_anew lines asks acts ++ more
 anew_front lines more [] acts recorded = refl
@@ -40,7 +39,7 @@ anew_front lines more (a ∷ asks) (l ∷ acts) recorded =
     ∙ anew_front (slice_set lines a.event l) more asks acts
     (subst (λ (n : ℕ). AreEmitted n asks) (sym (length-set lines a.event l)) recorded.1)
 
--- if the last line is that of the last waiting act, `emitted_anew` puts the act's new line there
+-- if the last line is the line of the last waiting act, `emitted_anew` puts the act's new line there
 pub anew_last : (lines : List SeenLine) (idle line : SeenLine) (asks : List Ask) (x : Ask) (acts : List SeenLine) →
     x.event ≡ length lines →
     AreEmitted (length lines) asks → length acts ≡ length asks →
@@ -81,7 +80,7 @@ module _ (old new : SeenLine) (caller : new.caller ≡ old.caller) (event : new.
       (is_too c n (event_word e) line same fit.0, fit.1)
   fit_set c n (e ∷ events) (line ∷ lines) (suc i) there fit = (fit.0, fit_set c (suc n) events lines i there fit.1)
 
--- if line j is `old` before line i is set to `new`, then afterwards it is still `old`, or i is j and it is `new`
+-- suppose that line j is `old`. After line i was set to `new`, line j is still `old`, or i is j and line j is `new`
 get_set : (lines : List SeenLine) (i j : ℕ) (old new : SeenLine) → slice_get lines j ≡ Some old →
     ((i ≡ j) × (slice_get (slice_set lines i new) j ≡ Some new)) ⊎ (slice_get (slice_set lines i new) j ≡ Some old)
 get_set [] i j old new there = absurd (cc there)

@@ -103,7 +103,7 @@ in_order (suc count) k runs once =
     (one_of k runs (first_once count k runs once)).run
     ∷ in_order count (suc k) runs (rest_once count k runs once)
 
--- `in_order` contains each of `runs` whose caller is among the `count` callers from k on
+-- `in_order` contains each of `runs` that is a run of one of the `count` callers from k on
 pub in_order_all : (count k : ℕ) (runs : List Run) (once : AllOnce k count runs) (r : Run) → IsOneOf r runs →
     k ≤ number r → number r < k + count → IsOneOf r (in_order count k runs once)
 in_order_all zero k runs once r here from to = absurd (omega arith)

@@ -1,4 +1,5 @@
--- In a vgetrandom call with acts inside, the caller's own steps and those of its acts have the order of `vread_items`.
+-- In a vgetrandom call with acts inside, the caller's own steps and the steps of its acts have the order of
+-- `vread_items`.
 use Rattle.std.proofs.Common.{◌≡◌, ◌⊎◌, inl, inr, List, [], ◌∷◌, ◌++◌, refl, sym, ap, ◌∙◌, subst}
 use Rattle.key_names.specs.declared.names.Step.{Step}
 use Rattle.key_names.specs.declared.point.Point.{Point}
@@ -32,8 +33,8 @@ module _ (set : Setting) (asks : List Ask) where
   pub kept_at : (q p : Point) (s t : Spot) → Apart p q → Reached set asks p s t → Kept q s t
   kept_at q p s t other k = record { items = (k.elsewhere q other).0; untouched = (k.elsewhere q other).1 }
 
-  -- from s to t a call reached points: it made two looks, Start and Written, the steps for a new key, Serve and End,
-  -- and the last steps
+  -- from s to t a call reached its points. In this order, it made two looks, passed Start and Written, made the steps
+  -- for a new key, passed Serve and End, and made the last steps
   pub record Path (s t : Spot) : Type 0 where
     pub looked : Spot
     pub started : Spot
@@ -69,8 +70,8 @@ module _ (set : Setting) (asks : List Ask) where
           ∙ ap (λ (l : List Item). l ++ c.rekey) (c.write.line ∙ c.start.line ∙ c.looks.line
           ∙ ap (λ (l : List Step). items_from set.event 0 l ++ c.first ∷ c.second ∷ []) empty))
 
-      -- if the acts at a point ran from u to v, and nothing before or after changed them, they made the steps that they
-      -- have at the end
+      -- suppose that the acts at a point ran from u to v, and that nothing before or after changed them. Then they made
+      -- the steps that they have at the end
       at_last : (p : Point) (u v : Spot) → Reached set asks p u v → Kept p s u → Kept p v t →
           Part set.caller (view_at u) (view_at v) (here p)
       at_last p u v k before after =

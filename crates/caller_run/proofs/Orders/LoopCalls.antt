@@ -1,5 +1,5 @@
--- If `CallsSoFar`, the invariant of a loop over a caller's events, holds, it holds again after one more event of each
--- kind.
+-- `CallsSoFar` is the invariant of a loop over a caller's events. If it holds, it holds again after one more event of
+-- any kind.
 use Rattle.std.proofs.Common.{◌≡◌, ℕ, zero, suc, ◌<◌, true, false, List, [], ◌∷◌, ◌++◌, length, refl, sym, ap, ◌∙◌, arith, append_assoc, length-append}
 use Rattle.std.specs.Prelude.{if◌then◌else◌}
 use Rattle.key_names.specs.declared.events.Event.{Event}

@@ -1,4 +1,5 @@
--- A sum over the places of a caller's own visits is the same for its pass and for the marks of its lines.
+-- A sum over the places of the visits that a caller's pass made equals the sum over the places of the marks in the
+-- caller's lines.
 use Rattle.std.proofs.Common.{◌≡◌, ℕ, ◌<◌, List, [], ◌∷◌, ◌++◌, length, sym, ap, ◌∙◌, arith}
 use Rattle.std.specs.List.{sum_by}
 use Rattle.std.proofs.Math.ListN.{get_or-map}

@@ -1,5 +1,5 @@
--- The steps of a caller as the host of a call with acts inside: some steps are its own, and the acts made the others at
--- the points.
+-- The steps of a caller as the host of a call with acts inside. The caller made some of these steps itself, and the
+-- acts at the points made the others.
 use Rattle.std.proofs.Common.{◌≡◌, ℕ, ◌+◌, Bool, true, false, List, [], ◌∷◌, ◌++◌, length, map, refl, sym, ap, ◌∙◌, subst, arith, append_assoc, append-nil}
 use Rattle.std.specs.Prelude.{MatchBool, ⊤}
 use Rattle.std.proofs.lemmas.List.{append_cancel_left}
@@ -47,7 +47,7 @@ later_quiet (publishes g ∷ steps) = later_quiet steps
 later_quiet (system_call n flags answer ∷ steps) = later_quiet steps
 later_quiet (at_point point wiped ∷ steps) = (refl, later_quiet steps)
 
--- if the caller itself makes one of these steps, the first one that it makes is a look
+-- if the caller itself makes any of these steps, the first step that it makes is a look
 abbrev pub LooksFirst : List HostStep → Type 0
 LooksFirst [] = ⊤
 LooksFirst (publishes g ∷ steps) = ⊤

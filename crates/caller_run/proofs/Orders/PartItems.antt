@@ -36,7 +36,7 @@ part_went caller event n v w made_steps went = record {
   order = items_from_doings event n made_steps;
 }
 
--- if the steps of a line are xs and then ys, the line's items are those of xs and then those of ys
+-- if the steps of a line are xs and then ys, the line's items are the items of xs and then the items of ys
 pub items_append : (event n : ℕ) (xs ys : List Step) →
     items_from event n (xs ++ ys) ≡ items_from event n xs ++ items_from event (length xs + n) ys
 items_append event n [] ys =

@@ -45,7 +45,7 @@ idle_line c = record {
 
 -- at this event the caller `c` keeps an act for its next vread; `e` is the caller when it goes on. `before` and `after`
 -- are the caller's lines; the last line of `after` shows the act as not done. `acts` are the acts that wait before the
--- event, and `left` those that wait after it
+-- event, and `left` the acts that wait after it
 pub record Keeps (event : Event) (c e : Caller) (before after : Gathered) (acts left : List Bound) : Type 0 where
   pub point : Point
   pub act : InsideAct

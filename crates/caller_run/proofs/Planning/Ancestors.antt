@@ -1,5 +1,5 @@
--- The setting at the start of each caller of a script, and the steps of its ancestors before it. A parent has a lower
--- number than its child.
+-- The setting at the start of each caller of a script, and the steps that its ancestors made before that start. A
+-- parent has a lower number than its child.
 use Rattle.std.proofs.Common.{◌≡◌, ◌⊎◌, inl, inr, ℕ, zero, suc, ◌<◌, ◌≤◌, max, Bool, true, false, None, List, [], ◌∷◌, ◌++◌, length, map, refl, sym, ap, ◌∙◌, subst, arith, length-append, append_assoc}
 use Rattle.std.specs.Prelude.{nat_lt, ◌&&◌, if◌then◌else◌}
 use Rattle.std.specs.List.{AllByRecursion, fold}

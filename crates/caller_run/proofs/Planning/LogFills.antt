@@ -29,7 +29,7 @@ put_back back items n long =
     ap (λ (k : ℕ). take k (back ++ drop (length back) items)) (sym long)
     ∙ take-append_seam back (drop (length back) items)
 
--- if n is at most the number `most`, it is at most the larger of `most` and `more`
+-- if n is at most `most`, n is at most the larger of `most` and `more`
 pub above : (n most more max : ℕ) → max ≡ ord_max nat_cmp most more → n ≤ most → n ≤ max
 above n most more max is le = grind (arith, nat_tests)
 

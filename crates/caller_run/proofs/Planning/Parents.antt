@@ -62,7 +62,7 @@ none_found c (alone (Fork child) line ∷ calls) none = go (child == c) none (λ
     go false none rest = ap (with_call_before (alone (Fork child) line)) (rest (omega arith))
 none_found c (call ∷ calls) none = ap (with_call_before call) (none_found c calls none)
 
--- if one call forks caller c, and no call before it does, `fork_point` finds that call
+-- if a call forks caller c, and no earlier call does, `fork_point` finds this call
 pub found : (c : ℕ) (before : List Call) (line : SeenLine) (after : List Call) → forks_in c before ≡ 0 →
     fork_point c (before ++ alone (Fork c) line ∷ after) ≡ Some (record { before = before; line = line })
 found c [] line after none =
@@ -88,7 +88,7 @@ forks_append c [] ys = omega arith
 forks_append c (alone (Fork child) line ∷ xs) ys = let rest = forks_append c xs ys in omega arith
 forks_append c (call ∷ xs) ys = forks_append c xs ys
 
--- `calls` fork caller c: the call that does so comes after `fork.before`, and has the line `fork.line`
+-- one of `calls` forks caller c: this call comes after `fork.before`, and has the line `fork.line`
 pub record ForksAt (c : ℕ) (calls : List Call) (fork : ForkPoint) : Type 0 where
   pub after : List Call
   pub is : calls ≡ fork.before ++ alone (Fork c) fork.line ∷ after

@@ -27,15 +27,15 @@ use Rattle.caller_run.proofs.Planning.Sums.{hit, hit_same}
 use Rattle.caller_run.proofs.Planning.Slots.{put_long, put_append}
 use Rattle.caller_run.proofs.Forks.WentOn.{above_number, few_events}
 
--- the rooms in g are those of the callers that the events `done` of caller c fork. The events `rest` come before
--- `done`, and the rooms of the callers that they fork are still to be made
+-- g has the rooms of the callers that caller c forks in its last events, `done`. The rooms of the callers that it forks
+-- in its earlier events, `rest`, are still to be made
 pub record PreparedSoFar (callers : List (List Event)) (c : ℕ) (rest : List Event) (g : ForkTree) : Type 0 where
   pub done : List Event
   pub all : list_at callers c ≡ rest ++ done
   pub ready : ArePrepared callers g (forks done)
 
--- of the lines `all`, those of the rooms in g are still in these rooms, and the others are in the slots of their
--- callers
+-- `all` are the lines to put into the slots, with their callers' numbers. The lines of the rooms in g are still in
+-- these rooms, and the other lines are in their callers' slots
 pub record GatheredSoFar (before now : List Gathered) (all : List (ℕ × List SeenLine)) (g : ForkTree) : Type 0 where
   pub many : length now ≡ length before
   pub left : put_in (lines_in now) (emitted_in g) ≡ put_in (lines_in before) all

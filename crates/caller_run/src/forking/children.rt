@@ -16,8 +16,9 @@ const OWN_STACK: usize = 128 * 1024;
 /// these bytes add up.
 const FORK_STACK: usize = 16 * 1024;
 
-/// The bytes of stack for this caller's thread. They suffice for the caller and for all callers of higher numbers: it
-/// can fork, or run in its own thread, no others. The standard library rounds the bytes up to a multiple of 128 KiB.
+/// The bytes of stack for this caller's thread. They suffice for the caller and for all callers with higher numbers.
+/// The caller can fork no other callers, and no others can run in its thread. The standard library rounds the bytes up
+/// to a multiple of 128 KiB.
 pub(crate) fn stack_for(script: &Script, caller: u32) -> usize
     ensures { result ≡ 2 ^ 17 + 2 ^ 14 * (length script.now.callers - caller) }
 {

@@ -1,4 +1,4 @@
-//! Plans: all memory of a run, taken before it, and the lines of all callers after it.
+//! A plan has all memory of a run, taken before the run. After the run, the lines of all callers are gathered from it.
 ghost use Rattle.std.specs.Prelude.{◌≡◌, ◌<◌, ◌≤◌, length, IfOk};
 ghost use Rattle.key_names.specs.Texts.ScriptGrammar.{Script, WellFormed};
 ghost use Rattle.caller_run.specs.ForkTree.{emitted_by};

@@ -13,8 +13,8 @@ pub(crate) struct Buffers {
     pub(crate) inside: Vec<u8>,
 }
 
-/// Memory for a caller of a script and for all callers that it forks. It has room for the lines of the caller and for
-/// the bytes that they show, and the rooms of its children. A run fills this memory.
+/// Memory for a caller of a script and for all callers that it forks. It has room for the caller's lines and for the
+/// bytes that these lines show. It also has the rooms of the caller's children. A run fills this memory.
 #[derive(Drop)]
 pub struct Room {
     pub(crate) caller: u32,

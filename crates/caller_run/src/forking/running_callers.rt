@@ -37,7 +37,7 @@ pub(crate) struct RunningCaller {
 }
 
 impl RunningCaller {
-    /// A caller at its start. It wipes the states that it gets.
+    /// A caller at its start. This function wipes `states`.
     pub(crate) fn starting(
         pass: Pass,
         set: Setting,

@@ -28,8 +28,8 @@ pub(crate) fn all_wanted(acts: &[Bound]) -> usize
 }
 
 impl Caller {
-    /// Keeps an act until the caller's next `vread`. The act's line shows it as not done, until that `vread` replaces
-    /// the line.
+    /// Keeps an act until the caller's next `vread`. The act's line shows the act as not done, until that `vread`
+    /// replaces the line.
     pub(crate) fn wait(&mut self, log: &mut Log, event: &Event, point: Point, act: InsideAct)
         requires can { (t : Lanes) × (served : ℕ) × (inside : ℕ)
             × CanAdvance t self.old log.old served inside (event.now ∷ []) }

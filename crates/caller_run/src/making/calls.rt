@@ -1,4 +1,4 @@
-//! The calls of the core for a caller's events, each with its own line.
+//! The calls of the core for a caller's events. Each such call has a line of its own.
 ghost use Rattle.std.specs.Prelude.{◌≡◌, ℕ, [], length};
 ghost use Rattle.key_names.specs.Texts.ScriptGrammar.{InRange};
 ghost use Rattle.caller_run.specs.Calling.{Asked, Called, CanAsk, IsReady};

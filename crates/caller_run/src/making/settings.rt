@@ -25,7 +25,7 @@ fn set_by(set: &mut Setting, event: &Event)
 }
 
 impl Caller {
-    /// Changes the setting, the states and the event's number of the caller to those after an event.
+    /// Changes the caller's setting, states and event number to those after `event`.
     pub(crate) fn go_on(&mut self, event: &Event)
         requires number { self.old.set.event < 2 ^ 32 - 1 }
         requires current { self.old.states.value.current < 16 }

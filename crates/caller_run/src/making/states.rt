@@ -10,7 +10,7 @@ use std::alloc::{AllocError, Global};
 use std::array;
 use vdso_state::VState;
 
-/// The sixteen vgetrandom states of a caller, and the number of the one that it reads from.
+/// The sixteen vgetrandom states of a caller, and the number of the state that the caller reads from.
 #[derive(Drop)]
 pub(crate) struct States {
     pub(crate) all: [VState; 16],
@@ -33,7 +33,8 @@ impl States {
     /// # Errors
     ///
     /// `AllocError` if there is no memory for them.
-    // Not inlined, so that the states are not on the stacks of its callers, one of which is recursive.
+    // Not inlined, so that the states are not in the stack frames of the functions that call it. One of these is
+    // recursive.
     #[inline(never)]
     pub(crate) fn boxed(alloc: Global) -> Result<Box<States>, AllocError>
         ensures { IfOk result (λ states. states.value ≡ record { all = replicate 16 wiped_state; current = 0 }) }

@@ -15,8 +15,8 @@ use lane_table::Lanes;
 use rng_core::{Bound, LaneHost, Site, vread, vread_inside};
 use std::sync::Wait;
 
-/// The arguments of a read out of a state: its flags, the buffer for its bytes, and the buffer for the bytes of the
-/// acts inside.
+/// The arguments of a read out of a state: the flags, the buffer for the read's bytes, and the buffer for the bytes of
+/// the acts inside.
 #[derive(Drop)]
 pub(crate) struct ReadInto<'a> {
     pub(crate) flags: u32,
@@ -90,8 +90,8 @@ impl Caller {
         Reply::read(vread_inside(&mut host, st, into.served, into.flags))
     }
 
-    /// Reads out of the current state. The acts that waited for this read are made inside it, and their lines are
-    /// replaced.
+    /// Reads out of the current state. The acts that waited for this read are made inside the read, and the lines of
+    /// these acts are replaced.
     pub(crate) fn read_state<R: Wait, G>(
         &mut self,
         shared: &Shared<'_, R, G>,

@@ -16,7 +16,7 @@ use lane_table::Lanes;
 use std::sync::Wait;
 use transcript_text::{LineView, Shown};
 
-/// A line apart from its steps and bytes: its event, its word, its reply, and how many bytes were served.
+/// A line without its steps and bytes: its event, its word, its reply, and how many bytes were served.
 #[derive(Clone, Copy)]
 pub(crate) struct EmittedLine {
     pub(crate) event: u32,
@@ -58,8 +58,8 @@ impl EmittedLine {
 }
 
 impl Caller {
-    /// Makes the call of an event that is no act and no fork, and returns its line. The line's steps are in `trace`,
-    /// and the bytes that the line shows are at the front of `served`.
+    /// Makes the call of an event that is no act and no fork, and returns the event's line. The line's steps are in
+    /// `trace`, and the bytes that the line shows are at the front of `served`.
     pub(crate) fn call_once<R: Wait>(
         &mut self,
         rt: &R,

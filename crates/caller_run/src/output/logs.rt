@@ -26,7 +26,8 @@ pub(crate) struct Log {
     pub(crate) trace: Box<Trace>,
 }
 
-/// If true, the event is no act, forks no caller and shows no bytes. One test finds this for the most frequent kinds.
+/// If true, the event is no act, forks no caller and shows no bytes. This one test covers the most frequent kinds of
+/// such events.
 #[inline(always)]
 pub(crate) fn is_silent(event: &Event) -> bool
     ensures { OnTrue result (IsEmittedOnce event.now × (most_shown event.now ≡ 0)) }
@@ -38,7 +39,7 @@ pub(crate) fn is_silent(event: &Event) -> bool
 }
 
 /// How many bytes the line of an event shows at most.
-// Inlined, since each event calls it twice.
+// Inlined, since it is called up to twice for each event.
 #[inline(always)]
 pub(crate) fn most_shown(event: &Event) -> u32
     ensures { result ≡ most_shown event.now }
@@ -68,7 +69,7 @@ fn read_inside(event: &Event) -> u32
     }
 }
 
-/// How many bytes the lines of some events need at most, and how many bytes the reads inside their vreads need.
+/// The most bytes that the lines of some events need, and the bytes that the reads inside the events' vreads need.
 #[derive(Clone, Copy)]
 pub(crate) struct Needs {
     /// The bytes of all lines.
@@ -105,7 +106,8 @@ impl Needs {
 }
 
 impl Log {
-    /// A log with room for the lines of `events` events, for `shown` bytes in all of them, and for a last line.
+    /// A log with room for the lines of `events` events and for a last line, and for `shown` bytes in all these lines
+    /// together.
     ///
     /// # Errors
     ///

@@ -62,7 +62,7 @@ impl Reply {
         Reply::done(LineData::Served)
     }
 
-    /// The reply of a call that was done, with the data of its line.
+    /// The reply of a call that was done, with the data of the call's line.
     pub(crate) fn done(shows: LineData) -> Reply
         ensures { result ≡ record { answer = Answer.Ok; shows = shows } }
     {
@@ -108,7 +108,7 @@ impl Reply {
         }
     }
 
-    /// The bytes that a line shows, out of the bytes that were served. The line has no count.
+    /// The bytes that a line shows: all of `served`, or none. The line has no count.
     pub(crate) fn bytes<'a>(&self, served: &'a [u8]) -> &'a [u8]
         requires { IsNoCount self.now.shows }
         ensures shown { bytes_or_none result.now ≡ shown_by served.now self.now.shows }

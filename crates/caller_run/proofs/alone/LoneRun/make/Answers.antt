@@ -5,7 +5,7 @@ use Rattle.caller_run.proofs.Forks.Alone.{goes_on, made_one, once_called}
 use Rattle.caller_run.proofs.Planning.LogFills.{put_back}
 use Rattle.caller_run.proofs.alone.LoneRun.make.Goals as goal
 
--- if the items of a list were lent out and came back as `all`, the first n of them are those of `all`
+-- if the items of a list were lent out and came back as `all`, its first n items are the first n of `all`
 front_back : (n most len : ℕ) (all items : List ℕ) → length all ≡ len → n ≡ most
     → take n (take len (all ++ drop (length all) items)) ≡ take most all
 front_back n most len all items long is =
