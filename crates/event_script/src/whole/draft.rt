@@ -23,8 +23,8 @@ const MOST_READ: u64 = 16_777_216;
 
 const MOST_ACTS: u32 = 8;
 
-/// A block has room for this many events before it grows. The system grows a list of this size by moving its pages;
-/// growing a smaller list copies the events.
+/// A block has room for this many events before it grows. To grow a list of this size, the system moves its pages; to
+/// grow a smaller list, it copies the events.
 const FIRST_ROOM: usize = 6144;
 
 /// The script so far: its finished blocks, the events of its last block, and counts over all blocks.
@@ -109,7 +109,7 @@ impl Draft {
         })
     }
 
-    /// Whether an event forks a caller that was forked before, or whose number is not above the forking caller's.
+    /// Whether an event forks a caller that was forked before, or a caller whose number is at most the forking caller's.
     fn is_bad_fork(&self, event: &Event) -> bool
         requires { InRange self.now.head.version self.now.head.cpus event.now }
         ensures { result ≡ is_bad_fork (draft_as self.now) event.now }
