@@ -227,8 +227,8 @@ abbrev pub with_list : List Visit → List (List Visit) → List (List Visit)
 with_list [] lists = lists
 with_list (x ∷ xs) lists = (x ∷ xs) ∷ lists
 
--- a view's part of a lane after a join. `heard` keeps both known lists, since the join does not show that the shorter list is
--- a prefix of the longer one
+-- a view's part of a lane after a join. `heard` keeps both known lists, since the join does not show that the shorter
+-- list is a prefix of the longer one
 abbrev pub merged : LaneView → LaneView → LaneView
 merged a b = record a {
   known = longer a.known b.known;

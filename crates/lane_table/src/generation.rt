@@ -19,8 +19,8 @@ impl Lanes {
         self.table.shared.load::<Look>(&mut pass.seat, GENERATION)
     }
 
-    /// Stores `g` in the generation word, while the pass holds the base. `g` is the base's generation plus one; the base
-    /// gets this generation at the later `put` of this hold.
+    /// Stores `g` in the generation word, while the pass holds the base. `g` is the base's generation plus one; the
+    /// base gets this generation at the later `put` of this hold.
     pub fn raise(&self, pass: &mut Pass, _held: &Held, g: u64)
         requires pass { IsPassOf self.now pass.old }
         requires held { Holds self.now pass.old _held.now }

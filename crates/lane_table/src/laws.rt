@@ -11,8 +11,8 @@ pub fn each_ticket_has_one_holder()
     ensures { EachTicketHasOneHolder }
 {}
 
-/// A lane's ticket number is the table's first number plus the number of tickets that the passes drew for this lane. The
-/// lane's serving number is lower by the number of tickets in use.
+/// A lane's ticket number is the table's first number plus the number of tickets that the passes drew for this lane.
+/// The lane's serving number is lower by the number of tickets in use.
 pub fn numbers_count_from_first()
     ensures { NumbersCountFromFirst }
 {}

@@ -1,8 +1,8 @@
 //! Events that a word and at most two numbers spell, read in place.
 //!
 //! Most lines of a long script spell such events. These lines are read in one pass, byte by byte, without a search for
-//! the line end or the fields. If the functions here return `None`, the line is read field by field. A line with a fault
-//! is always read field by field.
+//! the line end or the fields. If the functions here return `None`, the line is read field by field. A line with a
+//! fault is always read field by field.
 
 ghost use Rattle.std.specs.Prelude.{◌≡◌, ℕ, ◌∷◌, ◌++◌, IfSome};
 ghost use Rattle.std.specs.Bool.{OnTrue};
@@ -141,8 +141,8 @@ fn is_short(word: Word, numbers: NumberFields) -> bool
     }
 }
 
-/// The word and the numbers of a text's first line, and the text after the line. If the result is not `None`, some event
-/// has this word and these numbers.
+/// The word and the numbers of a text's first line, and the text after the line. If the result is not `None`, some
+/// event has this word and these numbers.
 pub(crate) fn short_line(text: &[u8]) -> Option<(Word, NumberFields, &[u8])>
     ensures spelt { IfSome result (λ all. text.now ≡ word_text all.0 ++ (after_word all.1 ++ 10 ∷ all.2.now)) }
     ensures short { IfSome result (λ all. IsShort all.0 all.1) }
