@@ -38,8 +38,8 @@ pub record IsMarkOf (v : View) (mark : Mark) (who : Who) (e : LaneEntry) : Type 
 abbrev pub maker : ℕ → ℕ → ℕ → Who
 maker caller event step = record { caller = caller; event = event; step = step }
 
--- the view has each visit of the steps. The visit's maker is the caller, the event `event`, and the step's number: the
--- first step has number `n`, and each later step the next number
+-- the view has each visit of the steps, with a maker: the caller, the event `event`, and the step's number. The first
+-- step has number `n`, and the numbers rise by one from step to step
 abbrev pub AllConform : View → ℕ → ℕ → ℕ → List MadeStep → Type 0
 AllConform v caller event n [] = ⊤
 AllConform v caller event n (looked g ∷ made_steps) = AllConform v caller event (suc n) made_steps

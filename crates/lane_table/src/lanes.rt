@@ -162,7 +162,8 @@ impl Held {
         self.state.get()
     }
 
-    /// The value of the lane, for changes. `put` requires the changed value to be the one that the put entry defines.
+    /// The value of the lane, for changes. `put` requires the changed value to be the one that the argument `entry` of
+    /// `put` defines.
     pub fn state_mut(&mut self) -> &mut LaneState
         ensures* writes_back { sem 𝓛 (LendsState self.entry result) }
         ensures value { result.now ≡ self.old.state }
