@@ -22,8 +22,8 @@ after_is_whole lines end b whole cut =
     rest_is_whole lines whole (omega (arith, ap length (cut_joins lines end b cut), length-append end (10 ∷ b))) b
     (sym (ap following cut))
 
--- if `lines` is `end`, a line feed and `b`, then `rest`, `lines` and `more` are the line `rest ++ end`, its line feed,
--- `b` and `more`
+-- suppose that `lines` is `end`, a line feed and `b`. Then `rest`, `lines` and `more` together are the line
+-- `rest ++ end`, its line feed, `b` and `more`
 regroup : (rest lines end b more : List ℕ) → lines ≡ end ++ 10 ∷ b
     → rest ++ (lines ++ more) ≡ ((rest ++ end) ++ 10 ∷ []) ++ (b ++ more)
 regroup rest lines end b more is =
@@ -32,8 +32,8 @@ regroup rest lines end b more is =
     ∙ sym (append_assoc rest end (10 ∷ (b ++ more)))
     ∙ sym (append_assoc (rest ++ end) (10 ∷ []) (b ++ more))
 
--- if the reader `r` keeps the start of a line, and then reads `lines` (`end`, which completes that line, a line feed,
--- and the whole lines `b`), only `more` is unread
+-- the reader `r` keeps the start of a line. `lines` is `end`, which completes that line, a line feed, and the whole
+-- lines `b`. After the reader read `lines`, only `more` is unread
 pub lines_read : (text lines end b more line : List ℕ) (r next : ScriptReader) (mid : ScriptStage)
     → parts 10 lines ≡ end ∷ parts 10 b → line ≡ (r.rest.items ++ end) ++ 10 ∷ [] → next.rest.items ≡ []
     → LeadsTo r.stage line mid [] → LeadsTo mid b next.stage []
@@ -122,8 +122,8 @@ piece_begins text piece r at = record {
   number = omega (arith, at.number, length-append text piece);
 }
 
--- if the unread bytes, `front`, have no line feed, and the reader appends them to its field `rest` (the start of the next
--- line), then no byte is unread
+-- if the unread bytes, `front`, have no line feed, and the reader appends them to its field `rest` (the start of the
+-- next line), then no byte is unread
 front_kept : (text front : List ℕ) (r next : ScriptReader) → IsAfter text r front → Lacks 10 front → next.stage ≡ r.stage
     → next.rest.items ≡ r.rest.items ++ front → IsAfter text next []
 front_kept text front r next at clean same rest = record {
@@ -166,7 +166,7 @@ piece_read text piece lines front r begun read next fed short is clean stage res
           clean same kept;
     }
 
--- if `text ++ piece` exceeds the limit of 16,777,216 bytes, `HasFed` requires only that the reader's count exceeds it
+-- if `text ++ piece` exceeds the limit of 16,777,216 bytes, `HasFed` requires only that the reader's count does too
 pub too_long_now : (text piece : List ℕ) (r next : ScriptReader) → HasFed text r → 16777216 < length text + length piece
     → 16777216 < next.len → HasFed (text ++ piece) next
 too_long_now text piece r next fed many long =

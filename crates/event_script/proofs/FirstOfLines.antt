@@ -23,7 +23,7 @@ unfolding script_from
 one_step d n [] some = absurd (let e = some.is in cc)
 one_step d n (line ∷ more) some = refl
 
--- script_from adds the first line to the draft, and goes on with the other lines
+-- `script_from` adds the first line to the draft, and goes on with the other lines
 pub step_of : (d : Draft) (n : ℕ) (text : List ℕ)
     → script_from d n (parts 10 text)
     ≡ (at_line n (line_of (parts 10 text) >>= after_line d) >>= by_next

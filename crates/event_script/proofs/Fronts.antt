@@ -48,7 +48,7 @@ front_end (next ∷ more) line some end = rw end refl
 regroup : (before line rest : List ℕ) → before ++ (line ++ 10 ∷ rest) ≡ (before ++ (line ++ 10 ∷ [])) ++ rest
 regroup before line rest = simp append_assoc
 
--- if the first line of `left` is not `end`, HasFront also holds for `rest`, the text after this line
+-- if the first line of `left` is not `end`, `HasFront` also holds for `rest`, the text after this line
 pub goes_past : (text left line rest : List ℕ) → HasFront text left → parts 10 left ≡ line ∷ parts 10 rest
     → bytes_eq line (codes "end") ≡ false → HasFront text rest
 goes_past text left line rest h cut not =

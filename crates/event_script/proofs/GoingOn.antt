@@ -124,7 +124,7 @@ none_done (events ∷ done) is = absurd (omega (arith, is))
 pub no_blocks : (view : DraftView) (d : Draft) → IsViewOf view d → view.blocks ≡ 0 → d.done ≡ []
 no_blocks view d seen none = none_done d.done (sym none ∙ seen.blocks)
 
--- if the view of a draft has no finished block and no event that forks, IsLone holds for the draft
+-- if the view of a draft has no finished block and no event that forks, `IsLone` holds for the draft
 pub lone_view : (view : DraftView) (d : Draft) → IsViewOf view d → view.blocks ≡ 0 → ForkNone view.events.now → IsLone d
 lone_view view d seen none forks = record {
   first = no_blocks view d seen none;

@@ -90,7 +90,7 @@ lone_event d event lone none = record {
 }
 
 -- the line `n`, the last of `text`, added `event` to the draft `d`. If `later` has no orphan (a forked caller without a
--- block), it is the new draft.
+-- block), `later` is the new draft.
 pub record AddsEvent (text : List ℕ) (d : Draft) (n : ℕ) (later : Draft) (m : ℕ) : Type 0 where
   pub event : Event
   pub goes : GoesOnFrom text (with_event d event) (n + 1)

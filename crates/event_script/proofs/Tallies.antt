@@ -16,8 +16,8 @@ use Rattle.key_names.specs.Texts.ScriptFaults.{Draft, blocks_of, has_orphan, is_
 use Rattle.key_names.proofs.Script.Drafts.{forks_of, lengths, no_orphan, orphanless, reads, times_with, total_block, total_split}
 use Rattle.event_script.specs.Tally.{IsLight, Tallied, fork_in, is_over}
 
--- `forked` has one flag for each caller number, true if the caller was forked. `marked` is these flags after an event
--- that forks the given child, or none
+-- `forked` has one flag for each caller number, true if the caller was forked. `marked` gives the flags after an event
+-- that forks the given child, if there is one
 abbrev pub marked : List Bool → Option ℕ → List Bool
 marked forked None = forked
 marked forked (Some child) = set forked child true

@@ -44,7 +44,7 @@ pub has_line : (text : List ℕ) → IsWhole text → 0 < length text → HasLin
 has_line text (inl none) some = absurd (omega (arith, ap length none))
 has_line text (inr front) some = subst HasLine (sym front.1) (first_whole front.0)
 
--- whatever text `later` follows, the lines of the whole are the first line and then the lines of `rest` and `later`
+-- whatever `later` is, the lines of `text ++ later` are the first line and then the lines of `rest ++ later`
 parts_of : (text later : List ℕ) (h : HasLine text) → parts 10 (text ++ later) ≡ h.line ∷ parts 10 (h.rest ++ later)
 parts_of text later h =
     ap (λ x. parts 10 (x ++ later)) h.is

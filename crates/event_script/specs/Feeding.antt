@@ -29,7 +29,7 @@ goes (Lines draft number) lines = script_from (draft_as draft) number lines
 goes (Ended draft number) lines = nothing_after number lines >>= λ none. Ok (script_of_draft (draft_as draft))
 goes (Faulty fault line) lines = Err fault
 
--- the number of the line that comes next at the given stage
+-- the number of the line that comes next at the given stage; 0 after a fault
 abbrev pub number_of : ScriptStage → ℕ
 number_of Version = 1
 number_of (Cpus version) = 2
@@ -44,13 +44,13 @@ pub record LeadsTo (stage : ScriptStage) (text : List ℕ) (next : ScriptStage) 
   pub whole : IsWhole rest
   pub number : number_of next + length rest ≤ number_of stage + length text
 
--- whatever follows the text, reading it from the given stage gives `fault`; nothing is claimed if memory ran out
+-- whatever follows the text, reading the text from the given stage gives `fault`. If memory ran out, nothing is claimed
 abbrev pub FailsFrom : ScriptStage → List ℕ → ScriptError → Type 0
 FailsFrom stage text (Fault fault) = (later : List ℕ) → goes stage (parts 10 (text ++ later)) ≡ Err fault
 FailsFrom stage text NoMemory = ⊤
 
--- the given result is right for reading the first lines of `text` from `stage`: the next stage and the remaining text,
--- which is shorter, or the first fault
+-- the given result is right if the first lines of `text` are read from `stage`. The result is the next stage and the
+-- remaining text, which is shorter than `text`; or it is the first fault, or memory ran out
 abbrev pub Leads : ScriptStage → List ℕ → Result (ScriptStage × Bor (List ℕ)) ScriptError → Type 0
 Leads stage text (Ok both) = LeadsTo stage text both.0 both.1.now × (length both.1.now < length text)
 Leads stage text (Err error) = FailsFrom stage text error
@@ -62,7 +62,7 @@ pub record IsAfter (text : List ℕ) (reader : ScriptReader) (unread : List ℕ)
   pub clean : All (λ b. (b == 10) ≡ false) reader.rest.items
   pub number : number_of reader.stage + length reader.rest.items + length unread ≤ length text + 1
 
--- the reader was fed `text`; if `text` is too long, only the reader's count of bytes is constrained
+-- the reader was fed `text`. If `text` exceeds 16,777,216 bytes, only the reader's count of bytes is constrained
 pub record HasFed (text : List ℕ) (reader : ScriptReader) : Type 0 where
   pub len : length text ≤ 16777216 → reader.len ≡ length text
   pub long : 16777216 < length text → 16777216 < reader.len

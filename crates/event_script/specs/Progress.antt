@@ -14,7 +14,7 @@ use Rattle.event_script.specs.declared.progress.ScriptProgress.TheVariants.{Wait
 abbrev pub GoesOnFrom : List ℕ → Draft → ℕ → Type 0
 GoesOnFrom text d n = (later : List ℕ) → script_of_lines (parts 10 (text ++ later)) ≡ script_from d n (parts 10 later)
 
--- if nothing follows the text, its script is that of the draft `d`; if text follows, line `n` has a fault
+-- if nothing follows the text, the text is the script of the draft `d`; if more text follows, line `n` has a fault
 abbrev pub EndsWith : List ℕ → Draft → ℕ → Type 0
 EndsWith text d n = (later : List ℕ) → script_of_lines (parts 10 (text ++ later))
     ≡ (nothing_after n (parts 10 later) >>= λ none. Ok (script_of_draft d))
@@ -24,7 +24,7 @@ abbrev pub FailsWith : List ℕ → ScriptFault → Type 0
 FailsWith text fault = (later : List ℕ) → script_of_lines (parts 10 (text ++ later)) ≡ Err fault
 
 -- The view has the draft's version, its number of CPUs, its number of finished blocks, and the events of its last
--- block. `has_orphan` is whether a forked caller has no block.
+-- block. The view's `has_orphan` is true if and only if a forked caller has no block.
 pub record IsViewOf (view : DraftView) (d : Draft) : Type 0 where
   pub version : view.version ≡ d.version
   pub cpus : view.cpus ≡ d.cpus

@@ -23,7 +23,7 @@ abbrev pub GivesScript : {X Y : Type 0} → (X → Y) → Result X ScriptError �
 GivesScript view (Ok x) given = given ≡ Ok (view x)
 GivesScript view (Err e) given = FailsAt e given
 
--- the same as GivesScript, for an error that also contains the faulty line
+-- the same as `GivesScript`, for an error that also contains the faulty line
 abbrev pub GivesUnread : {X Y : Type 0} → (X → Y) → Result X Unread → Result Y ScriptFault → Type 0
 GivesUnread view (Ok x) given = given ≡ Ok (view x)
 GivesUnread view (Err unread) given = FailsAt unread.error given

@@ -1,5 +1,5 @@
 //! Scripts: the text that lists the calls of each caller (docs/SCRIPT.md). The reader accepts exactly the texts of the
-//! grammar, and returns the first fault of any other. The contracts use the grammar and the faults of `key_names`
+//! grammar, and returns the first fault of any other text. The contracts use the grammar and the faults of `key_names`
 //! (`specs/Texts`).
 //!
 //! [`read`] reads a whole text, [`read_front`] reads a script at the start of a longer text, and a [`ScriptReader`]
@@ -25,16 +25,16 @@
 //!
 //! - [`read`], [`read_front`] and [`ScriptReader::finish`]: if memory does not run out, the result is the script whose
 //!   only spelling is the text. If no script has this spelling, the result is the text's first fault by the definition.
-//!   For `read_front`, the text stops after its first line `end`.
+//!   For `read_front`, the text ends with its first line `end`, if it has one.
 //! - [`ScriptReader::progress`]: the events of the lines read so far, or the first fault.
 //! - [`Script::load`]: the script of a load, as `specs/LoadScript.antt` defines it.
-//! - [`Script::version`]: every script is well-formed.
+//! - [`Script::version`]: the contract also states that every script is well-formed.
 //!
 //! # Tested only
 //!
 //! A reader shows an event once the event's line is whole, and the text of a load spells the load's events:
-//! `event_script_tests` of `test_texts`. `long_texts` tests that the fault of a long text is found in one pass, with no
-//! memory for more than the text.
+//! `event_script_tests` of `test_texts`. `long_texts` tests that the reader finds the fault of a long text in one pass,
+//! with memory for the text only.
 #![tactic(auto)]
 
 mod load;

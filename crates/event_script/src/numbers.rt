@@ -24,8 +24,8 @@ fn ends_number(text: &[u8]) -> bool
     }
 }
 
-/// The number at the start of a text, if it is at most `most`, and the text after it. The text begins with exactly
-/// `len` digits, which spell `value`.
+/// The number at the start of a text, if this number is at most `most`, and the text after the number. The text begins
+/// with exactly `len` digits, which spell `value`.
 #[inline(always)]
 fn cut_number(most: u64, value: u64, len: usize, text: &[u8]) -> Option<(u64, &[u8])>
     requires { IsDigits text.now value len }
@@ -45,8 +45,8 @@ fn cut_number(most: u64, value: u64, len: usize, text: &[u8]) -> Option<(u64, &[
     Some((value, &text[len..]))
 }
 
-/// The number at the start of a text longer than 19 bytes. Its first 19 bytes are digits, which spell `value`; at most
-/// one more digit fits in a `u64`.
+/// The number at the start of a text longer than 19 bytes. The text's first 19 bytes are digits, which spell `value`. A
+/// `u64` has room for at most one more digit.
 #[inline(never)]
 fn long_number(most: u64, value: u64, text: &[u8]) -> Option<(u64, &[u8])>
     requires digits { BeginsDigits text.now value 19 }
@@ -103,7 +103,8 @@ fn read_on_apart(most: u64, value: u64, seen: usize, text: &[u8]) -> Option<(u64
     Some((number, rest))
 }
 
-/// The number up to `most` at the start of a text, in decimal and without leading zeros, and the text after it.
+/// The number at the start of a text, at most `most`, in decimal and without leading zeros; and the text after the
+/// number.
 ///
 /// `None` if the text begins with no digit, if it begins with a zero and another digit, or if the digits at its start
 /// spell more than `most`.

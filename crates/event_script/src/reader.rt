@@ -85,7 +85,7 @@ impl ScriptReader {
     /// # Errors
     ///
     /// `AllocError` if there is no memory for the script, or for an incomplete line. The reader must not be used after
-    /// that.
+    /// this error.
     pub fn feed(&mut self, alloc: Global, piece: &[u8]) -> Result<(), AllocError>
         requires { (text : List ℕ) × HasFed text self.old }
         ensures fed { OnOk result ((text : List ℕ) → HasFed text self.old → HasFed (text ++ piece.now) self.new) }

@@ -73,7 +73,7 @@ impl Script {
         self.version
     }
 
-    /// The number of CPUs, from 1 to 64, or to 256 in version 3.
+    /// The number of CPUs: 1 to 64, or 1 to 256 in version 3.
     pub fn cpus(&self) -> u32
         ensures { result ≡ self.now.cpus }
     {

@@ -38,8 +38,8 @@ pub record IsMarkOf (v : View) (mark : Mark) (who : Who) (e : LaneEntry) : Type 
 abbrev pub maker : ℕ → ℕ → ℕ → Who
 maker caller event step = record { caller = caller; event = event; step = step }
 
--- the view has each visit among the steps, made by the event `event` of the caller. The first step has number `n`, and
--- the numbers rise by one from step to step
+-- the view has each visit of the steps, with a maker: the caller, the event `event`, and the step's number. The first
+-- step has number `n`, and the numbers rise by one from step to step
 abbrev pub AllConform : View → ℕ → ℕ → ℕ → List MadeStep → Type 0
 AllConform v caller event n [] = ⊤
 AllConform v caller event n (looked g ∷ made_steps) = AllConform v caller event (suc n) made_steps
@@ -68,16 +68,16 @@ abbrev pub Climbs : ℕ → List ℕ → ℕ → Type 0
 Climbs low [] high = low ≡ high
 Climbs low (stamp ∷ stamps) high = (low < stamp) × Climbs stamp stamps high
 
--- the greatest generation that a view has seen: no later look is below it
+-- the greatest generation that a view has in `seen` or in the base's known list: no later look finds a lower one
 abbrev pub floor : View → ℕ
 floor v = max v.seen (replay (known_of v 1)).base.generation
 
--- the generation in a lane's model (its value in the proofs): that of the base or of a CPU; for the pool it is 0
+-- the generation in a lane's model (its value in the proofs): the base's or the CPU's generation, or 0 for the pool
 abbrev pub generation_of : Model → ℕ
 generation_of s = max s.base.generation s.cpu.cpu.generation
 
--- each look finds at least the generation seen before it; after a visit the generation seen is at least that of the
--- visited lane
+-- each look finds at least the generation that was seen before the look. After a visit, the generation seen is at least
+-- the visited lane's generation
 abbrev pub Sees : View → ℕ → List MadeStep → ℕ → Type 0
 Sees w low [] high = low ≤ high
 Sees w low (looked g ∷ made_steps) high = (low ≤ g) × Sees w g made_steps high

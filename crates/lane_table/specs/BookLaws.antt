@@ -46,20 +46,20 @@ ClosedIsForwardLawful = (lanes : ℕ) (visits : ℕ → List Visit) (callers : S
     ForwardLawful (book_lists lanes visits callers)
 
 -- suppose that `ClosedLanes` holds. An extraction or a refill names the place that takes its key. If each such place
--- has a visit that names it back, or is beyond the end of its list, the book is half finished
+-- has a visit that names the extraction or refill back, or is beyond the end of its list, the book is half finished
 abbrev pub HalfAnsweredIsHalfFinished : Type 0
 HalfAnsweredIsHalfFinished = (lanes : ℕ) (visits : ℕ → List Visit) (callers : StateLists) →
     ClosedLanes lanes visits → AllHalfAnswered lanes visits →
     HalfFinishedLanes (book_lists lanes visits callers)
 
 -- suppose that `ClosedLanes` holds. An extraction or a refill names the place that takes its key. If each such place
--- has a visit that names it back, the book is lawful
+-- has a visit that names the extraction or refill back, the book is lawful
 abbrev pub AnsweredIsLawful : Type 0
 AnsweredIsLawful = (lanes : ℕ) (visits : ℕ → List Visit) (callers : StateLists) →
     ClosedLanes lanes visits → AllAnswered lanes visits →
     LawfulLanes (book_lists lanes visits callers)
 
--- a fill without its key and its place, since a lane keeps neither with a batch
+-- a fill without its key and its place: a lane does not keep them with a batch
 abbrev pub bare : Option Fill → Option Fill
 bare None = None
 bare (Some fill) = Some (record { key = None; place = 0; count = fill.count; look = fill.look })

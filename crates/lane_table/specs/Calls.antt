@@ -25,7 +25,7 @@ use Rattle.lane_table.specs.Steps.{Seated, Grows, KeepsHeld, OwesNothing, MayNam
 abbrev pub count_of : Lanes → ℕ
 count_of t = t.cpus + 2
 
--- a bound below all stamps of the table's visits
+-- a number below the stamps of all visits of the table
 abbrev pub first_of : Lanes → ℕ
 first_of t = t.table.shared.key.first
 
@@ -101,7 +101,7 @@ pub record SameView (v w : View) : Type 0 where
   pub halvings : w.halvings ≡ v.halvings
   pub sized : length w.lanes ≡ length v.lanes
 
--- the pass's visits of lane `j`, and the lists of `j` that its joins kept (`heard`), are as before
+-- the pass's visits of lane `j`, and the lists of `j` kept at the pass's joins (`heard`), are as before
 pub record SameHistory (j : ℕ) (v w : View) : Type 0 where
   pub made : (at j w).made ≡ (at j v).made
   pub places : (at j w).places ≡ (at j v).places
@@ -114,8 +114,8 @@ pub record SameOtherLane (j : ℕ) (v w : View) : Type 0 where
   pub raise : (at j w).raised ≡ (at j v).raised
   pub still : SameHistory j v w
 
--- at a lane `j` that the pass holds, the known list, the stage, `raised`, the visits and the heard lists are as before;
--- the pass may owe an answer there now
+-- at lane `j` the known list, the stage, `raised`, the visits and the heard lists are as before; `owes` may change, so
+-- that the pass owes an answer there
 pub record SameHeldLane (j : ℕ) (v w : View) : Type 0 where
   pub known : known_of w j ≡ known_of v j
   pub stage : (at j w).stage ≡ (at j v).stage
@@ -150,8 +150,8 @@ pub record Taken (lane : ℕ) (h : Held) (m m' : Seated) : Type 0 where
 abbrev pub DrewTooLate : ℕ → Seated → Seated → Type 0
 DrewTooLate lane m m' = (m'.0.drawn ≡ m.0.drawn + 1) × (2 ^ 62 ≤ last_stamp m'.0.first (known_of m'.0 lane))
 
--- one of these is 2^62 or more: the pass's stamp, the ticket number that was read, or the last stamp of the lane that
--- was got
+-- one of these is 2^62 or more: the pass's stamp, the ticket number that was read, or, if the pass got the lane, the
+-- lane's last stamp
 abbrev pub IsSpent : ℕ → Seated → Seated → Type 0
 IsSpent lane m m' = (2 ^ 62 ≤ m.0.stamp) ⊎ (2 ^ 62 ≤ (at lane m'.0).found) ⊎ DrewTooLate lane m m'
 
@@ -173,8 +173,8 @@ abbrev pub Refused : ℕ → Seated → Seated → TakeFault → Type 0
 Refused lane m m' Spent = IsSpent lane m m'
 Refused lane m m' (Busy serving ticket) = IsBusy lane serving ticket m m'
 
--- the pass did not get the lane: its stage at each lane is as before, and it drew no ticket unless the lane's last
--- stamp is 2^62 or more
+-- the pass did not get the lane. The pass's stage at each lane is as before, and the pass drew a ticket only if the
+-- lane's last stamp is 2^62 or more
 pub record Tried (lane : ℕ) (m m' : Seated) : Type 0 where
   pub consistent : Consistent m.0 → Consistent m'.0
   pub same : SameView m.0 m'.0

@@ -1,5 +1,5 @@
 -- The meaning of a lane's list of visits: the lane's value after the visits, the key that each visit hands on, and the
--- entries that may come next. The list alone determines all of it, since each visit includes the key that it received.
+-- entries that may come next. The list alone determines these, since each visit includes the key that it received.
 -- A lane's model (its value in the proofs) has a part for each kind of lane, and an entry changes the part of its own
 -- kind.
 use Rattle.std.specs.Prelude.{◌≡◌, ℕ, suc, ◌+◌, ◌/◌, ◌<◌, ◌≤◌, ◌==◌, ⊤, List, [], Option, Some, None, replicate, slice_index_or, if◌then◌else◌}
@@ -39,7 +39,7 @@ IsOf lane (Pool e) = lane ≡ 0
 IsOf lane (Base e) = lane ≡ 1
 IsOf lane (Cpu e) = 2 ≤ lane
 
--- the parent lane of a lane, from which its entries take keys: the pool for the base, and the base for a CPU
+-- the parent lane: the lane from which a lane's entries take keys. It is the pool for the base, and the base for a CPU
 abbrev pub parent : ℕ → ℕ
 parent lane = if lane == 1 then 0 else 1
 
@@ -97,7 +97,7 @@ start_model = record { pool = pool_start; base = base.start; cpu = cpu_start; le
 abbrev pub hand : List ℕ → ℕ → Handed
 hand key generation = record { key = key; generation = generation }
 
--- the empty `Handed`, of an entry that receives no key or hands none on
+-- the empty `Handed`, for an entry that receives no key or hands none on
 abbrev pub nothing : Handed
 nothing = hand [] 0
 
@@ -119,7 +119,7 @@ generator_of got = record { key = got.key; generation = got.generation }
 abbrev pub cpu_used : CpuEntry → Handed → CpuValue → List ℕ
 cpu_used e got c = (refilled (base_refill_of e) (generator_of got) c).key
 
--- a CPU's model after an entry; its fills have no key and no place, since a lane keeps neither with a batch
+-- a CPU's model after an entry. The model's fills have no key and no place: a lane does not keep them with a batch
 abbrev pub cpu_entered : CpuEntry → Handed → CpuModel → CpuModel
 cpu_entered e got c = record {
   cpu = cpu.after_entry e (generator_of got) c.cpu;
@@ -171,8 +171,8 @@ cpu_gives c got (Dump now) = nothing
 cpu_gives c got Prepare = nothing
 cpu_gives c got Online = nothing
 
--- the key that an entry hands on: an extraction hands on its root, and a refill a key with the base's generation; a
--- long read hands on the key that serves it
+-- the key that an entry hands on. An extraction hands on its root, a refill hands on a key and the base's generation,
+-- and a long read hands on the key that serves the read
 abbrev pub gave_of : Model → LaneEntry → Handed → Handed
 gave_of s (Pool e) got = pool_gives s.pool e
 gave_of s (Base e) got = base_gives s.base got e
@@ -256,7 +256,7 @@ batch_of width (Some fill) bytes = record { bytes = bytes; position = fill.count
 abbrev pub batch_at : ℕ → CpuModel → BatchValue
 batch_at width c = batch_of width (c.fills width) (c.bytes width)
 
--- each part of a CPU's value equals the model's. The batches are equal in the zeros that replace served bytes, too
+-- each part of a CPU's value equals the model's part. In the batches, the zeros that replace served bytes are equal too
 pub record CpuLaneConforms (lane : CpuLane) (c : CpuModel) : Type 0 where
   pub cpu : lane.cpu ≡ c.cpu
   pub b8 : lane.b8 ≡ batch_at 1 c
@@ -265,7 +265,7 @@ pub record CpuLaneConforms (lane : CpuLane) (c : CpuModel) : Type 0 where
   pub b64 : lane.b64 ≡ batch_at 8 c
   pub fast : lane.fast ≡ c.fast
 
--- the value is of the kind that the lane with this number has, and represents the model (the value in the proofs)
+-- the value is of the kind of the lane with this number, and represents the model (the lane's value in the proofs)
 abbrev pub ValueRepresents : ℕ → LaneState → Model → Type 0
 ValueRepresents lane (PoolValue value) s = (lane ≡ 0) × PoolLaneConforms value s.pool
 ValueRepresents lane (BaseLaneValue value) s = (lane ≡ 1) × (value.base ≡ s.base)
@@ -277,7 +277,7 @@ no_one = record { caller = 0; event = 0; step = 0 }
 abbrev pub no_visit : Visit
 no_visit = record { who = no_one; stamp = 0; entry = Pool Bits; got = nothing; gave = nothing }
 
--- the key that the visit at the named place of the list `following` hands on; no key if no place is named
+-- if a place is named, the key that the visit at that place of the list `following` hands on; otherwise no key
 abbrev pub got_of : Option ℕ → List Visit → Handed
 got_of None following = nothing
 got_of (Some place) following = (slice_index_or following place no_visit).gave

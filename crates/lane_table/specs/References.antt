@@ -1,6 +1,6 @@
--- References between lanes. An extraction of the pool names a place ahead, the place in the base's list that takes the
--- root; the base's entry there names the extraction back. A refill of the base and an entry of a CPU name each other in
--- the same way. The visit of the base or the CPU receives the key that the visit of the parent lane hands on.
+-- References between lanes. An extraction of the pool names a place in the base's list: the place that takes the root.
+-- The base's entry at that place names the extraction back. A refill of the base and an entry of a CPU name each other
+-- in the same way. The visit of the base or the CPU receives the key that the visit of the parent lane hands on.
 use Rattle.std.specs.Prelude.{◌≡◌, ◌⊎◌, ℕ, ◌<◌, ◌≤◌, List, Some, length}
 use mathlib.Core.Option.{some}
 use lib.ListN.{get_elem?}

@@ -55,7 +55,7 @@ loaded lane n m = (with_at lane (loading n (at lane m.0)) m.0, m.1)
 abbrev pub finds : Step (Option Content) → Seated → ℕ → Seated → Type 0
 finds st m r m' = (lane : ℕ) → st.word ≡ ticket_word lane → ((at lane m.0).loaded ≤ r) × (m' ≡ found lane r m)
 
--- an exchange of the ticket word, which draws a ticket if the word is as expected
+-- a compare and exchange of the ticket word. It draws a ticket if the word is as expected
 abbrev pub draws : Step (Option Content) → Seated → ℕ → Seated → Type 0
 draws st m r m' = (lane : ℕ) → st.word ≡ ticket_word lane
     → (r ≡ st.first → m' ≡ queued lane st.first m) × (r ≢ st.first → m' ≡ m)
@@ -64,7 +64,7 @@ draws st m r m' = (lane : ℕ) → st.word ≡ ticket_word lane
 abbrev pub queued_found : ℕ → ℕ → Seated → Seated
 queued_found lane t m = (with_at lane (waiting t (finding t (at lane m.0))) (with_drawn m.0), m.1)
 
--- an exchange of the ticket word; the pass also keeps the number that it found
+-- as `draws`, but the pass also keeps the number that it found in the ticket word
 abbrev pub tries : Step (Option Content) → Seated → ℕ → Seated → Type 0
 tries st m r m' = (lane : ℕ) → st.word ≡ ticket_word lane → ((at lane m.0).loaded ≤ r)
     × (r ≡ st.first → m' ≡ queued_found lane st.first m) × (r ≢ st.first → m' ≡ found lane r m)
@@ -152,7 +152,7 @@ abbrev pub after : ℕ → Visit → View → View
 after lane x v =
     owing (ahead_of x.entry) (length (known_of v lane)) (with_at lane (visited x (at lane v)) (with_stamp x.stamp v))
 
--- the pass holds the lane `ahead`; `place` is that lane's next place, and no other entry names it
+-- the pass holds the lane `ahead`; `place` is that lane's next place, and no earlier entry names it
 pub record NamesHeld (lane : ℕ) (v : View) (ahead place : ℕ) : Type 0 where
   pub above : 1 ≤ ahead
   pub near : ahead < length v.lanes
@@ -162,8 +162,8 @@ pub record NamesHeld (lane : ℕ) (v : View) (ahead place : ℕ) : Type 0 where
   pub free : (at ahead v).owes ≡ None
 
 -- an entry may hand a key only to a place that the pass holds. If an entry of the parent lane waits for an answer at
--- the held place, the new entry names it; otherwise the new entry names none. The new entry raises the generation if
--- and only if this hold did
+-- the held place, the new entry names that entry; otherwise it names none. The new entry raises the generation if and
+-- only if the pass raised the generation in this hold
 pub record MayName (lane : ℕ) (e : LaneEntry) (v : View) : Type 0 where
   pub ahead : (ahead_of e ≡ None) ⊎ ((l : ℕ) × (b : ℕ) × (ahead_of e ≡ Some (l, b)) × NamesHeld lane v l b)
   pub following : after_of e ≡ (at lane v).owes
@@ -227,8 +227,8 @@ abbrev pub with_list : List Visit → List (List Visit) → List (List Visit)
 with_list [] lists = lists
 with_list (x ∷ xs) lists = (x ∷ xs) ∷ lists
 
--- a part of a lane after a join. `heard` keeps both known lists, since the join does not show that the shorter list is
--- a prefix of the longer one
+-- a view's part of a lane after a join. `heard` keeps both known lists, since the join does not show that the shorter
+-- list is a prefix of the longer one
 abbrev pub merged : LaneView → LaneView → LaneView
 merged a b = record a {
   known = longer a.known b.known;
@@ -245,7 +245,7 @@ merged_lanes [] bs = []
 merged_lanes (a ∷ rest) [] = a ∷ rest
 merged_lanes (a ∷ rest) (b ∷ bs) = merged a b ∷ merged_lanes rest bs
 
--- the sum of two shares, with the greater number of halvings
+-- the view after a join. Its share is the sum of both shares, with the greater number of halvings
 abbrev pub both_of : View → View → View
 both_of v w = record v {
   share = v.share * 2 ^ (max v.halvings w.halvings - v.halvings) + w.share * 2 ^

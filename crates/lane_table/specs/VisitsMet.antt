@@ -24,8 +24,8 @@ use Rattle.lane_table.specs.BookLaws.{bare}
 abbrev pub base_serving : BaseValue → Handed → BaseEntry → List ℕ
 base_serving b got e = base_serves (key_in_use (root_of e) got.key b.key) e
 
--- the bytes that an entry of a CPU serves; `m` is the CPU's model, and `got` the base's refill. An integer that fills
--- no batch is the next one of its batch
+-- the bytes that an entry of a CPU serves; `m` is the CPU's model, and `got` the base's refill. If the batch need not
+-- be filled first, an integer is the next one of its batch
 abbrev pub cpu_serving : CpuModel → Handed → CpuEntry → List ℕ
 cpu_serving m got (Read look refill taken) = taken_bytes (cpu_used (Read look refill taken) got m.cpu) taken
 cpu_serving m got (Int look refill width true) = batched_int (cpu_used (Int look refill width true) got m.cpu) width 0

@@ -103,7 +103,7 @@ Consistent v = ConsistentLists (length v.lanes) (known_of v)
 
 -- The rule of one lane
 
--- the stage of pass number j fits the lane: `owner` maps each ticket to its pass. The pass that holds the lane has
+-- the stage of pass number `j` fits the lane. `owner` maps each ticket to its pass. The pass that holds the lane has
 -- the served ticket and the slot, and knows the whole list
 module _ (ticket serving : ℕ) (owner : ℕ → ℕ) (home : Home) (log : List Visit) (j : ℕ) (known : List Visit) where
   abbrev pub Conforms : TicketStage → Type 0

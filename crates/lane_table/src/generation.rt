@@ -9,8 +9,8 @@ use crate::plays::{Look, Raise};
 
 impl Lanes {
     /// One look at the generation: a load, which takes no lane and never waits. The result is below 2^63. The result is
-    /// at least each generation that the pass found or raised before, and each generation of the base or a CPU that the
-    /// pass knows.
+    /// at least each generation that the pass found or raised before. It is also at least the generations of the base
+    /// and the CPUs, as far as the pass knows their lists.
     pub fn generation(&self, pass: &mut Pass) -> u64
         requires { IsPassOf self.now pass.old }
         ensures pass { IsSamePass self.now pass.old pass.new }
@@ -19,8 +19,8 @@ impl Lanes {
         self.table.shared.load::<Look>(&mut pass.seat, GENERATION)
     }
 
-    /// Stores `g` in the generation word, while the pass holds the base. `g` is the base's generation plus one, which
-    /// the base gets in the later `put` of this hold.
+    /// Stores `g` in the generation word, while the pass holds the base. `g` is the base's generation plus one; the
+    /// base gets this generation at the later `put` of this hold.
     pub fn raise(&self, pass: &mut Pass, _held: &Held, g: u64)
         requires pass { IsPassOf self.now pass.old }
         requires held { Holds self.now pass.old _held.now }

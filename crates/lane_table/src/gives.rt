@@ -16,7 +16,7 @@ use key_names::{Mark, Who};
 use std::marker::Brand;
 
 impl Lanes {
-    // Puts a lane's value back into its slot, the slot that the pass took last.
+    // Puts a lane's value back into the lane's slot, which is the slot that the pass took last.
     pub(crate) fn put_content(&self, pass: &mut Pass, lane: usize, content: Content)
         requires pass { IsPassOf self.now pass.old }
         requires out { slots pass.old ≡ (lane, None) ∷ rest (slots pass.old) }

@@ -112,7 +112,8 @@ impl Lanes {
 }
 
 impl Pass {
-    /// The pass's stamp: an upper bound for the stamps of the visits that the pass made, or inherited at its split.
+    /// The pass's stamp: an upper bound for the stamps of all visits that the pass made, or got from another pass at a
+    /// split or a join.
     pub fn stamp(&self) -> u64
         ensures { result ≡ self.now.stamp }
     {
@@ -161,7 +162,8 @@ impl Held {
         self.state.get()
     }
 
-    /// The value of the lane, for changes. `put` requires the changed value to be the one that its entry defines.
+    /// The value of the lane, for changes. `put` requires the changed value to be the one that the argument `entry` of
+    /// `put` defines.
     pub fn state_mut(&mut self) -> &mut LaneState
         ensures* writes_back { sem 𝓛 (LendsState self.entry result) }
         ensures value { result.now ≡ self.old.state }

@@ -11,8 +11,8 @@ pub fn each_ticket_has_one_holder()
     ensures { EachTicketHasOneHolder }
 {}
 
-/// A lane's ticket number is the first number of the table, plus one for each ticket that a pass drew. The lane's
-/// serving number is lower by the number of tickets in use.
+/// A lane's ticket number is the table's first number plus the number of tickets that the passes drew for this lane.
+/// The lane's serving number is lower by the number of tickets in use.
 pub fn numbers_count_from_first()
     ensures { NumbersCountFromFirst }
 {}
@@ -36,8 +36,8 @@ pub fn counts_and_shares_add_up()
     ensures { CountsAndSharesAddUp }
 {}
 
-/// Stamps rise along each list. A pass's stamp is at least the stamp of each visit that the pass made, or inherited at
-/// its split.
+/// Stamps rise along each list. A pass's stamp is at least the stamp of each visit that the pass made, or got from
+/// another pass at a split or a join.
 pub fn stamps_rise()
     ensures { StampsRise }
 {}
@@ -55,7 +55,7 @@ pub fn generation_is_the_bases()
     ensures { GenerationIsTheBases }
 {}
 
-/// Suppose that each list is lawful, and that if an entry names a visit of its parent lane, that visit names the entry.
+/// Suppose that each list is lawful, and that each visit that an entry names in its parent lane names the entry back.
 /// Then in the book the lists of the base and the CPUs are lawful. If an entry of these lists names a root or a refill,
 /// the entry at the named place names it back (`ForwardLawful`).
 pub fn closed_is_forward_lawful()

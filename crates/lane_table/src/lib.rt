@@ -6,7 +6,7 @@
 //!
 //! # Example
 //!
-//! A reseed (`crng_reseed`), while another pass looks. The last line calls [`Lanes::put`].
+//! A reseed (`crng_reseed`), while another pass looks at the generation. The last line calls [`Lanes::put`].
 //!
 //! ```rust
 //! let mut base = lanes.take(rt, pass, LaneId::Base);
@@ -27,7 +27,7 @@
 //! - [`Lanes::take`]: the value in the lane represents the lane's list, and the hold has the list's next place.
 //! - [`Lanes::put`]: the visit gets the held place, so each visit has one place in its lane's list. Its stamp is above
 //!   those of the pass and the lane.
-//! - [`Lanes::generation`]: a look never finds a lower generation than an earlier look of the pass.
+//! - [`Lanes::generation`]: a look never finds a lower generation than an earlier look of the same pass.
 //! - [`Lanes::settle`]: an idle pass that has the whole share knows each lane's whole list.
 //! - [`laws`]: one rule over all lanes holds between any two atomic steps. Most laws state a part of it.
 //!
@@ -35,8 +35,8 @@
 //!
 //! # Tested only
 //!
-//! A caller that holds a CPU does not block a caller on another CPU (`hold_tests` of `test_core`). A look finds the
-//! generation that another pass raised before it put the base (`lane_table_tests`).
+//! A caller that holds a CPU does not block a caller on another CPU (`hold_tests` of `test_core`). If another pass has
+//! raised the generation, a look finds the raised one even before that pass puts the base (`lane_table_tests`).
 //!
 //! # Differs from the kernel
 //!

@@ -79,7 +79,7 @@ impl Lanes {
     ///
     /// # Errors
     ///
-    /// Memory ran out.
+    /// `AllocError` if memory ran out.
     pub fn start(alloc: Global, cpus: u32, first: u64) -> Result<(Lanes, Pass), AllocError>
         requires cpus { (1 ≤ cpus) × (cpus ≤ 256) }
         requires first { first ≤ 2 ^ 62 }
@@ -140,8 +140,8 @@ impl Lanes {
         pass.stamp = pass.stamp.max(stamp);
     }
 
-    /// Changes nothing. If the pass is idle and has the whole share, the pass knows each lane's whole list, and has
-    /// counted all visits. A pass has the whole share once it has joined all other passes.
+    /// Changes nothing, and is called for its contract: an idle pass that has the whole share knows each lane's whole
+    /// list, and has counted all visits. A pass has the whole share once it has joined all other passes.
     pub fn settle(&self, pass: &mut Pass)
         requires { IsPassOf self.now pass.old }
         ensures pass { IsSamePass self.now pass.old pass.new }

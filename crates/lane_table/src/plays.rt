@@ -30,7 +30,7 @@ impl Tells for Brand {
     ghost visit = { no_visit };
 }
 
-/// An exchange of the ticket word, which draws a ticket.
+/// A compare and exchange of the ticket word. It draws a ticket if the word is as expected.
 pub struct DrawTicket;
 
 impl Play<Slot, View> for DrawTicket {
@@ -39,7 +39,7 @@ impl Play<Slot, View> for DrawTicket {
     ghost then = { draws };
 }
 
-/// An exchange of the ticket word. The pass also keeps the number that it found.
+/// As `DrawTicket`, but the pass also keeps the number that it found in the ticket word.
 pub struct TryTicket;
 
 impl Play<Slot, View> for TryTicket {
@@ -75,7 +75,7 @@ impl Play<Slot, View> for Serve {
     ghost then = { serves };
 }
 
-/// The store of the serving word that makes the visit that `N` describes. The slot goes back to the table.
+/// The store of the serving word at a release with the visit that `N` describes. The slot goes back to the table.
 pub struct Put<N> {
     marker: PhantomData<N>,
 }
@@ -86,7 +86,7 @@ impl<N: Tells> Play<Slot, View> for Put<N> {
     ghost then = { puts N.visit };
 }
 
-/// The store of the serving word without a visit. The slot goes back to the table.
+/// The store of the serving word at a release without a visit. The slot goes back to the table.
 pub struct Leave;
 
 impl Play<Slot, View> for Leave {

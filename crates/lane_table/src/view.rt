@@ -42,14 +42,14 @@ pub enum TicketStage {
 /// The knowledge of a caller about one lane.
 ///
 /// - `known`: a prefix of the lane's list of visits.
-/// - `made` and `places`: the number of visits that the caller made, and their places in the list.
-/// - `tickets`: the number of the lane's tickets that the caller drew.
-/// - `stage`: the caller's state at the lane.
-/// - `owes`: the place of another lane's entry that already names the place held here, if there is such an entry. The
-///   visit made here has to answer that entry.
+/// - `made` and `places`: the number of visits that the caller made, or got at a join, and their places in the list.
+/// - `tickets`: the number of the lane's tickets that the caller drew, or got at a join.
+/// - `stage`: the caller's stage at the lane.
+/// - `owes`: an entry of another lane may already name the place that the caller holds in this lane. If so, `owes` is
+///   the place of that entry, and the caller's visit must name that entry back.
 /// - `raised`: 1 if the caller raised the generation in this hold, else 0.
 /// - `loaded` and `found`: the serving number and the ticket number that the caller read last.
-/// - `heard`: for each join, the prefixes of the list that this pass and the joined one knew.
+/// - `heard`: for each join, the prefixes of the list that the two passes knew before it.
 pub struct LaneView {
     pub known: LinkedList<Visit>,
     pub made: u64,
@@ -67,11 +67,11 @@ pub struct LaneView {
 ///
 /// - `first`: a bound below all stamps of the table's visits.
 /// - `share` and `halvings`: the caller's share of the table, which is `share / 2^halvings`.
-/// - `stamp`: an upper bound for the stamps of the visits that the caller made, or inherited at its split.
-/// - `stamps`: the stamps of the visits that the caller made, or inherited at its split.
+/// - `stamp`: an upper bound for the stamps in `stamps`.
+/// - `stamps`: the stamps of the visits that the caller made, or got from another pass at a split or a join.
 /// - `drawn`: the number of tickets that the caller drew.
-/// - `seen`: the greatest generation that the caller looked at, or raised.
-/// - `looks`: the generations that the caller looked at, in order.
+/// - `seen`: the greatest generation that the caller found in a look, raised, or got at a split or a join.
+/// - `looks`: the generations that the caller found in its looks, in order.
 /// - `lanes`: the caller's knowledge of each lane.
 pub struct View {
     pub first: u64,
@@ -85,7 +85,7 @@ pub struct View {
     pub lanes: LinkedList<LaneView>,
 }
 
-/// The number of a table's lanes, and the one number at which its stamps, tickets and serving numbers all begin.
+/// The number of a table's lanes, and the number at which the table's stamps, tickets and serving numbers begin.
 #[derive(Drop)]
 pub struct TableSize {
     pub count: usize,

@@ -130,8 +130,8 @@ fn join_in(lanes: &Lanes, pass: &mut Pass, other: Pass, _caller: u32)
     lanes.join(pass, other);
 }
 
-// Three passes have a quarter, a half and a quarter of the share. Joins the other two to the first, and closes the
-// table.
+// `pass` has a quarter of the share, `half` a half, and `quarter` a quarter. Joins the other two to `pass`, and closes
+// the table.
 fn closed(lanes: Lanes, mut pass: Pass, half: Pass, quarter: Pass) -> u128
     requires pass { HoldsLanes lanes 0 [] pass × ((view pass).share * 4 ≡ 2 ^ (view pass).halvings) }
     requires half { HoldsLanes lanes 2 [] half × ((view half).share ≡ 1) × ((view half).halvings ≡ 1) }

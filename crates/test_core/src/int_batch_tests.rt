@@ -19,7 +19,7 @@ fn bytes_before<const W: usize>(batch: &mut Batch<W>, generation: u64) -> [u8; 9
     bytes
 }
 
-// A fill has 96 / W integers. Their bytes, one after another, are those of the fill.
+// A fill has 96 / W integers. Their bytes, one after another, are the bytes of the fill.
 #[test]
 fn serves_each_byte_once(rt: HostRuntime) {
     let mut batch = Batch::<4>::start();

@@ -51,7 +51,7 @@ fn find(lanes: &Lanes, pass: &mut Pass, lane: LaneId) -> Result<FoundVisit, Take
     }
 }
 
-// What `find` returns to caller 1 at CPU 0 and at CPU 1, while caller 0 holds CPU 0.
+// The results of `find` for caller 1, at CPU 0 and at CPU 1, while caller 0 holds CPU 0.
 fn beside<R: Wait>(
     rt: &R,
     lanes: &Lanes,
@@ -75,7 +75,7 @@ fn beside<R: Wait>(
     (same, another)
 }
 
-// What `find` returns to caller 1 on a new table: at CPU 0 while caller 0 holds it for the first time, at CPU 1, and
+// The results of `find` for caller 1 on a new table: at CPU 0 while caller 0 holds it for the first time, at CPU 1, and
 // then at CPU 0 while caller 0 holds it again.
 fn found_from<R: Wait>(
     rt: &R,

@@ -1,6 +1,6 @@
-//! Tests of the parts, the lanes, the core's calls, draws, forks, runs and feeders: a module for each crate, over its
-//! public calls. They are a separate crate because a crate with tests is proved twice. `rt try --test` in the crate's
-//! folder runs them without proofs.
+//! Tests of the parts, the lanes, the core's calls, draws, forks, runs and feeders: a module for each crate, which uses
+//! the crate's public calls. They are a separate crate because a crate with tests is proved twice. `rt try --test` in
+//! the crate's folder runs them without proofs.
 //!
 //! Expected values come from outside: standards and other implementations. Tables of vectors are rows of the program
 //! `test_vectors`.

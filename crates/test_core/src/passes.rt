@@ -50,7 +50,7 @@ pub(crate) fn is_set_in_time(flag: &AtomicBool) -> bool {
     false
 }
 
-/// Whether another pass comes into the queue of a lane. The lane is held under its first ticket.
+/// Whether another pass queues for a lane within `TURNS` turns, while the holder of the lane has the first ticket, 0.
 pub(crate) fn sees_another_queued(lanes: &Lanes, pass: &mut Pass, caller: u32, lane: LaneId) -> bool
     requires has { HoldsLanes lanes.now caller [] pass.old }
     requires lane { index_of lane < count_of lanes.now }

@@ -1,4 +1,4 @@
-//! Short runs of one caller on a new table. Their steps and bytes are those of another implementation.
+//! Short runs of one caller on a new table. The expected steps and bytes are from another implementation.
 ghost use Rattle.std.specs.Prelude.{◌≡◌, ◌≤◌, ◌<◌, ◌^◌, [], length};
 ghost use Rattle.std.specs.List.{AllByRecursion};
 ghost use Rattle.lane_table.specs.Hands.{HoldsLanes};

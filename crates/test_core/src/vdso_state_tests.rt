@@ -100,7 +100,7 @@ impl VHost for ListHost {
     }
 }
 
-// The key of a state, which a copy of no bytes shows.
+// The key of a state, found by a copy of no bytes.
 fn key_of(st: &mut VState) -> [u8; 32] {
     st.pass(0, 0).key
 }

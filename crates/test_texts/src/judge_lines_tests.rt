@@ -1,4 +1,4 @@
-//! A small transcript and changed ones, each with the first clause on lines and marks that fails.
+//! A small transcript and changed copies of it, each with the first clause on lines and marks that fails for it.
 use event_script::{Script, read};
 use judge_lines::begin::{Begun, begin};
 use judge_lines::clause::Clause;

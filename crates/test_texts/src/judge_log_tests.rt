@@ -11,7 +11,7 @@ use judge_log::{
 use key_names::{BaseEntry, CpuEntry, PoolNote, Taken};
 use std::alloc::{AllocError, Global};
 
-// The first constant is the first root of a pool that "abc" was mixed into, computed by Python's hashlib. The second is
+// The first constant is the first root of a pool after a mix of "abc", computed by Python's hashlib. The second is
 // the CPU's key, bytes 32 to 64 of the root's keystream, and the third is bytes 0 to 32 of the keystream of the CPU's
 // key. The second and the third were computed by a ChaCha20 in Python that was compared with the first block of a zero
 // key.

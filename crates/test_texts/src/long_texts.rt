@@ -24,7 +24,7 @@ fn text_of(
     Ok(text)
 }
 
-/// The number of the text's first faulty line; 0 if the text is that of a transcript; `u32::MAX` if memory ran out.
+/// The number of the text's first faulty line; 0 if the text is a transcript; `u32::MAX` if memory ran out.
 fn fault(alloc: Global, text: &[u8]) -> u32 {
     if text.len() > 1 << 31 {
         return u32::MAX;

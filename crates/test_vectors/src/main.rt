@@ -4,16 +4,16 @@
 //! vectors and vectors of other implementations (`tools/vectors.py`).
 //!
 //! Each line of standard input is a row: a word and its fields, with one space between. The answer is a line. Bytes are
-//! hexadecimal, and `-` means no bytes; moments are milliseconds, below 2^40. A line that is no row ends the program
-//! with an error.
+//! hexadecimal, and `-` means no bytes, no threshold or no dump. Moments are milliseconds, below 2^40. A line that is
+//! no row ends the program with an error.
 //!
 //! - `hash KEY TEXT SIZE`: the BLAKE2s-256 hash of the text under the key. The text is hashed in pieces of SIZE bytes,
 //!   or at once if SIZE is 0.
 //! - `stream KEY FROM LEN`: LEN bytes of the key's ChaCha20 stream.
 //! - `kernel KEY LEN` and `user KEY LEN`: the key after a read of LEN bytes, and the bytes that were read.
 //! - `mix TEXT`, `credit BITS` and `extract HARDWARE` are calls of the input pool. The answer to a mix is the pool's
-//!   bits. The answer to a credit is the threshold that it crosses, and the bits after it. The answer to an extraction
-//!   is the root.
+//!   bits. The answer to a credit is the threshold that it crosses, and the pool's bits after the credit. The answer to
+//!   an extraction is the root.
 //! - `irq WORD WORD MOMENT` mixes an interrupt into the fast pool. If a dump becomes due, it is made, and the answer is
 //!   the dump with its bits.
 //! - `bits MOMENT`: the bits that an input event at the moment is worth.

@@ -15,7 +15,7 @@ pub(crate) fn spells(field: &[u8], text: &[u8]) -> bool
     field == text
 }
 
-/// The text before the first `byte`, and the text after it.
+/// The text before the first `byte`, and the text after that byte; `None` if the text has no such byte.
 pub(crate) fn cut(byte: u8, text: &[u8]) -> Option<(&[u8], &[u8])>
     ensures parts { MatchOption result (parts byte text.now ≡ text.now ∷ [])
         (λ both. parts byte text.now ≡ both.0.now ∷ parts byte both.1.now) }

@@ -1,8 +1,8 @@
 //! Events that a word and at most two numbers spell, read in place.
 //!
 //! Most lines of a long script spell such events. These lines are read in one pass, byte by byte, without a search for
-//! the line end or the fields. If the functions here return `None`, the line is read field by field. Every line with a
-//! fault is read in this way.
+//! the line end or the fields. If the functions here return `None`, the line is read field by field. A line with a
+//! fault is always read field by field.
 
 ghost use Rattle.std.specs.Prelude.{◌≡◌, ℕ, ◌∷◌, ◌++◌, IfSome};
 ghost use Rattle.std.specs.Bool.{OnTrue};
@@ -94,7 +94,7 @@ fn numbers_in_front(text: &[u8]) -> Option<(NumberFields, &[u8])>
     }
 }
 
-/// The numbers of the interrupt on the first line, and the text after the line.
+/// If a text's first line is an interrupt, the numbers of the interrupt, and the text after the line.
 // The reader looks for an interrupt before other words and makes the event of the interrupt at once, since a running
 // machine has many interrupts.
 pub(crate) fn irq_in_front(text: &[u8]) -> Option<(u64, u64, &[u8])>
@@ -141,7 +141,8 @@ fn is_short(word: Word, numbers: NumberFields) -> bool
     }
 }
 
-/// The word and the numbers of the first line, and the text after the line. Some event has this word and these numbers.
+/// The word and the numbers of a text's first line, and the text after the line. If the result is not `None`, some
+/// event has this word and these numbers.
 pub(crate) fn short_line(text: &[u8]) -> Option<(Word, NumberFields, &[u8])>
     ensures spelt { IfSome result (λ all. text.now ≡ word_text all.0 ++ (after_word all.1 ++ 10 ∷ all.2.now)) }
     ensures short { IfSome result (λ all. IsShort all.0 all.1) }

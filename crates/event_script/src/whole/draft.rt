@@ -23,8 +23,8 @@ const MOST_READ: u64 = 16_777_216;
 
 const MOST_ACTS: u32 = 8;
 
-/// A block has room for this many events before it grows. The system grows a list of this size by moving its pages;
-/// growing a smaller list copies the events.
+/// A block has room for this many events before it grows. To grow a list of this size, the system moves its pages; to
+/// grow a smaller list, it copies the events.
 const FIRST_ROOM: usize = 6144;
 
 /// The script so far: its finished blocks, the events of its last block, and counts over all blocks.
@@ -109,7 +109,8 @@ impl Draft {
         })
     }
 
-    /// Whether an event forks a caller that was forked before, or whose number is not above the forking caller's.
+    /// Whether an event forks a caller that was forked before, or a caller whose number is at most the forking
+    /// caller's.
     fn is_bad_fork(&self, event: &Event) -> bool
         requires { InRange self.now.head.version self.now.head.cpus event.now }
         ensures { result ≡ is_bad_fork (draft_as self.now) event.now }
@@ -177,7 +178,7 @@ impl Draft {
         Ok(())
     }
 
-    /// Begins the next block, if `number` is the number of this block.
+    /// Begins the next block, if `number` is that block's number and a caller with this number was forked.
     pub(crate) fn add_block(&mut self, alloc: Global, number: u32) -> Result<(), LineError>
         requires { number < 64 }
         ensures next { Gives (λ _. GoesOn (draft_as self.new)) result (after (draft_as self.old) (SaysCaller number)) }

@@ -1,5 +1,4 @@
--- The effect that the book has at a visit's place agrees with the lane's model (its value in the proofs) that the
--- visit's maker found.
+-- The book's effect at a visit's place agrees with the lane's model (its value in the proofs) before the visit.
 use Rattle.std.proofs.Common.{◌≡◌, ℕ, ◌+◌, ◌≤◌, ◌<◌, true, false, List, length, take, refl, sym, ap, ◌∙◌, subst, arith, Some, None, Option}
 use Rattle.std.specs.Prelude.{slice_get}
 use Rattle.std.proofs.lemmas.Option.{slice_get_within}
@@ -119,7 +118,7 @@ module _ (lanes : ℕ) (visits : ℕ → List Visit) (callers : StateLists) (ok 
   sides = beside lanes visits callers ok
 
   -- the pool's visit `x` at place `i`, with the entry `e`, has an effect in the book that agrees with the pool's model
-  -- before it
+  -- before the visit
   pub pool_effect : (i : ℕ) (x : Visit) (e : PoolEntry) → slice_get (visits 0) i ≡ Some x → x.entry ≡ Pool e →
       PoolMet book i (replay (take i (visits 0))).pool e
   pool_effect i x e at is =
@@ -134,7 +133,7 @@ module _ (lanes : ℕ) (visits : ℕ → List Visit) (callers : StateLists) (ok 
       }
 
   -- the base's visit `x` at place `i`, with the entry `e`, has an effect in the book that agrees with the base's model
-  -- before it
+  -- before the visit
   pub base_effect : (i : ℕ) (x : Visit) (e : BaseEntry) → slice_get (visits 1) i ≡ Some x → x.entry ≡ Base e →
       BaseMet book i (replay (take i (visits 1))).base x.got e
   base_effect i x e at is =
@@ -156,7 +155,7 @@ module _ (lanes : ℕ) (visits : ℕ → List Visit) (callers : StateLists) (ok 
       }
 
   -- the visit `x` of CPU `c` at place `i`, with the entry `e`, has an effect in the book that agrees with the CPU's
-  -- model before it
+  -- model before the visit
   pub cpu_effect : (c i : ℕ) (x : Visit) (e : CpuEntry) → c + 2 < lanes → slice_get (visits (c + 2)) i ≡ Some x →
       x.entry ≡ Cpu e → IsIntOfBatch e → CpuMet book c i (replay (take i (visits (c + 2)))).cpu x.got e
   cpu_effect c i x e below =

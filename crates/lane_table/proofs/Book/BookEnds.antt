@@ -45,8 +45,8 @@ module _ (v : View) (callers : StateLists) (low : 2 ≤ length v.lanes) (ended :
   pub ended_lawful : LawfulLanes (book_lists lanes (known_of v) callers)
   ended_lawful = lawful_lanes lanes (known_of v) callers ended_lanes ended.answered
 
-  -- if each mark is that of a visit (`MarksVisit`), and there are as many marks as visits made, the marks are exactly
-  -- those of the book's visits
+  -- if each mark belongs to a visit (`MarksVisit`), and there are as many marks as visits made, the marks are exactly
+  -- the marks of the book's visits
   pub ended_visits : (marks : List MarkBy) → AllByRecursion (MarksVisit lanes (known_of v)) marks →
       length marks ≡ sum_by made_in v.lanes → VisitsAre (book_of lanes (known_of v) callers) marks
   ended_visits marks all many =

@@ -170,7 +170,7 @@ module _ {E : Type 0} {lane : ℕ} (k : Kind E lane) (lanes : ℕ) (xs : List Vi
         who = ap (λ (w : of_book.Visit E). w.who) same;
       }
 
--- if P holds for the first `length xs` visits and entries of a lane, P holds for all its visits and entries
+-- if `P` holds for the first `length xs` visits and entries of a lane, `P` holds for all visits and entries of the lane
 pub whole : {E : Type 0} {lane : ℕ} (k : Kind E lane) (lanes : ℕ) (xs : List Visit) → LawfulLane lanes lane xs →
     (P : List Visit → List E → Type 0) → P (take (length xs) xs) (take (length xs) (entries k.of xs)) →
     P xs (entries k.of xs)

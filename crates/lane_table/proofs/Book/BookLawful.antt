@@ -26,7 +26,7 @@ use Rattle.lane_table.proofs.Lists.Places.{fold_next, at_each_place, counted, la
 use Rattle.lane_table.proofs.Book.BookEntries.{VisitAt, MadeAt, lane_at, made_at, base_kind, cpu_kind}
 use Rattle.lane_table.proofs.Book.BookCpus.{CpuLane, CpuAlike, RefillHanded, cpu_met, state_before, bytes_before}
 
--- an entry that fits the base's value also fits the state of the base's list: the state's other counts do not matter
+-- an entry that fits the base's value also fits the state of the base's list, whatever the state's other counts are
 base_fits : (s : BaseState) (value : List ℕ) (e : BaseEntry) → BaseFits (base_state (base_at s value)) e → BaseFits s e
 base_fits s value (Early None) fits = fits
 base_fits s value (Early (Some root)) fits = fits

@@ -98,8 +98,8 @@ module _ (lanes : ℕ) (visits : ℕ → List Visit) (callers : StateLists) (ok 
       let sum : visit_count book ≡ visits_in visits 0 (suc (suc (lanes - 2))) = omega arith in
       sum ∙ ap (visits_in visits 0) (sym all)
 
-  -- if each mark is that of a visit (`MarksVisit`), and there are as many marks as visits, the marks are exactly those
-  -- of the book's visits
+  -- if each mark belongs to a visit (`MarksVisit`), and there are as many marks as visits, the marks are exactly the
+  -- marks of the book's visits
   pub visits_are : (marks : List MarkBy) → AllByRecursion (MarksVisit lanes visits) marks →
       length marks ≡ visits_in visits 0 lanes → VisitsAre book marks
   visits_are marks all many = record {

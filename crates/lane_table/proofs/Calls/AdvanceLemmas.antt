@@ -1,5 +1,5 @@
--- The steps that a pass makes in each call of the table. Two successive calls make the steps of the first, then those
--- of the second.
+-- The steps that a pass makes in each call of the table. Two successive calls make the steps of the first call, and
+-- then the steps of the second.
 use Rattle.std.proofs.Common.{◌≡◌, ◌≢◌, ℕ, suc, ◌+◌, ◌<◌, ◌≤◌, List, [], ◌∷◌, ◌++◌, Option, Some, None, length, sym, refl, ap, ◌∙◌, subst, arith, append_assoc, append-nil, length-append, Bool, true, false, cond, eqb, get_or}
 use mathlib.Core.Logic.{dite}
 use native.Mathlib.Decide.{ℕ_discrete}

@@ -141,8 +141,8 @@ has_put t caller h hands x p p' none k is added = let others : (j : ℕ) → j �
           ∙ k.away j low (ne, no));
     }
 
--- let `h` be the lane taken last, and `o` the one taken before it. If the entry of a visit of `h` names a place of `o`,
--- the pass still holds its other lanes after the visit, and owes an answer at `o`
+-- let `h` be the lane taken last, and `o` the lane taken before `h`. If the entry of a visit of `h` names a place of
+-- `o`, the pass still holds its other lanes after the visit, and owes an answer at `o`
 pub has_put_naming : (t : Lanes) (caller : ℕ) (h o : HeldLane) (hands : List HeldLane) (x : Visit) (b : ℕ)
     (p p' : Pass) → ahead_of x.entry ≡ Some (o.lane, b) → HoldsLanes t caller (h ∷ o ∷ hands) p → IsSamePass t p p' →
     Added h.lane x p.seat.me p'.seat.me

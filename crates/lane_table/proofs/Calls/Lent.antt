@@ -1,5 +1,5 @@
 -- Lemmas about the end of a loan of a lane's value. `lent`: equal values represent the same models. `kept`: if a value
--- represents a model, it represents each equal model.
+-- represents a model, the value represents each equal model.
 use Rattle.std.proofs.Common.{◌≡◌, ℕ, sym}
 use Rattle.lane_table.specs.declared.values.LaneState.{LaneState}
 use Rattle.lane_table.specs.Meaning.{Model, ValueRepresents}

@@ -8,7 +8,7 @@ use native.Mathlib.Decide.{ℕ_discrete}
 use lib.ListN.{get_elem?}
 use Rattle.std.proofs.lemmas.List.{get_or-set_other}
 
--- if P follows both when a test is true and when it is false, P holds. Each case may use the test's value
+-- if `P` follows when a test is true, and also when the test is false, `P` holds. Each case may use the test's value
 pub bool_cases : (b : Bool) (P : Bool → Type 0) → (b ≡ true → P true) → (b ≡ false → P false) → P b
 bool_cases true P t f = t refl
 bool_cases false P t f = f refl

@@ -34,8 +34,8 @@ pub fold_next : {S E : Type 0} (step : S → E → S) (s : S) (es : List E) (i :
     fold step s (take (suc i) es) ≡ step (fold step s (take i es)) e
 fold_next step s es i e is = ap (fold step s) (take_next es i e is) ∙ fold-append step s (take i es) (e ∷ [])
 
--- if P holds for place 0, and each element of `xs` takes P from its own place to the next one, then P holds for each
--- place
+-- if `P` holds for place 0, and for each element of `xs` `P` at the element's place implies `P` at the next place, then
+-- `P` holds for each place
 pub at_each_place : {A : Type 0} (xs : List A) (P : ℕ → Type 0) → P 0 →
     ((i : ℕ) (x : A) → slice_get xs i ≡ Some x → P i → P (suc i)) →
     (i : ℕ) → i ≤ length xs → P i

@@ -24,8 +24,8 @@ use Rattle.lane_table.proofs.Rule.World.{Here, pick, pick_here, pick_else}
 use Rattle.lane_table.proofs.Rule.World as world
 use Rattle.lane_table.proofs.Rule.Plain as plain
 
--- the visit `x` may be made in the lane `i`: its entry is one of this lane, it receives the key that the entry names,
--- and it fits the lane's model (the value in the proofs)
+-- the visit `x` may be made in the lane `i`: the entry of `x` is one of this lane and fits the lane's model (the value
+-- in the proofs), and `x` receives the key that the entry names
 pub record Enters (i : ℕ) (x : Visit) (v : View) : Type 0 where
   pub kind : IsOf i x.entry
   pub got_is : x.got ≡ handed i x.entry v
@@ -51,7 +51,7 @@ module _ {first : ℕ} {s : St} {id : ℕ} {v : View} (h : Here first s id v) (i
     abbrev pub mine : LaneView
     mine = visited x (at i v)
 
-    -- the view with the visit `x`, without the answer that the pass may now owe at the lane that takes the visit's key
+    -- the view after the visit `x`, except that `owes` is not set yet at the lane that takes the visit's key
     abbrev pub own : View
     own = with_at i mine (with_stamp x.stamp v)
 

@@ -61,7 +61,7 @@ module _ {lane first ticket serving : ℕ} {home : Home} {col : List LaneView} {
     known_conforms known (Queued t) h k = k
     known_conforms known (Holding t) h k = (k.0, k.1, k.2, h k.3, k.4)
 
-    -- if a view stays in its stage and learns more of the list or of the words, the lane's rule still holds
+    -- if a pass stays in its stage and learns more of the list or reads newer words, the lane's rule still holds
     pub recast : (b : LaneView) → b.stage ≡ a.stage → b.made ≡ a.made → b.places ≡ a.places → b.tickets ≡ a.tickets →
         b.loaded ≤ serving → b.found ≤ ticket → b.heard ≡ a.heard → Begins b.known log → (a.known ≡ log → b.known ≡ log)
         → LaneOk lane first ticket serving home (set col id b) log owner
@@ -243,7 +243,7 @@ module _ {lane first ticket serving : ℕ} {home : Home} {col : List LaneView} {
           rising = rises;
         }
 
-    -- if the view of a new pass, with the same knowledge of the lane, is added, the lane's rule still holds
+    -- if a new pass with the same knowledge of the lane is added, the lane's rule still holds
     pub enters : LaneOk lane first ticket serving home (col ++ recorded a ∷ []) log owner
     enters = record {
       ordered = ok.ordered;

@@ -120,7 +120,7 @@ module _ {first : ℕ} {s : St} {id : ℕ} {v : View} (h : Here first s id v) (i
         (λ (none : OwesNothing i v). inl (w_raised e ∙ none.1 (sym one))) p.stage)
         (λ ne. keeps (ap (λ (a : LaneView). a.stage) (w_there 1 ne)))
 
-    -- the rule of the table holds if the lane's rule does, and the generation word rises exactly as `raised` does
+    -- if the lane's rule holds, and the generation word rises exactly as `raised` does, the rule of the table holds
     pub plainly : {k y : ℕ} (homes' : List (maybe.Option (Option Content))) (owner' : ℕ → ℕ) → WordStep h i k y →
         length homes' ≡ length s.homes → ((j : ℕ) → j ≢ i → get_elem? homes' j ≡ get_elem? s.homes j)
         → LaneOk i first (get_or (set s.words k y) (ticket_word i) 0) (get_or (set s.words k y) (serving_word i) 0)

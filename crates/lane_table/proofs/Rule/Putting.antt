@@ -48,8 +48,8 @@ module _ {first : ℕ} {s : St} {id : ℕ} {v : View} (h : Here first s id v) (i
   abbrev homes' : Content → List (maybe.Option (Option Content))
   homes' c = set s.homes i (some (Some c))
 
-  -- if the lane's rule holds for the serving number `t + 1` and a slot with `c`, it holds for the words and the slot
-  -- after `c` went back
+  -- if the lane's rule holds for the serving number `t + 1` and a slot with `c`, the rule holds for the words and the
+  -- slot after `c` went back
   home_lane : (c : Content) (log' : List Visit) (a' : LaneView) →
       LaneOk i first (get_or s.words (ticket_word i) 0) (t + 1) (some (some (Some c))) (set (column i s.views) id a')
       log' (h.rule.owners i)
@@ -62,8 +62,8 @@ module _ {first : ℕ} {s : St} {id : ℕ} {v : View} (h : Here first s id v) (i
       let P : ℕ × ℕ × Home → Type 0 = λ z. LaneOk i first z.0 z.1 z.2 (set (column i s.views) id a') log'
       (h.rule.owners i) in subst P (λ q. (sym e₁ q, sym e₂ q, sym e₃ q)) ok
 
-  -- `stepped` puts back the slot that was taken last. If the rule holds for the resulting words, slots and views, it
-  -- holds for the state that `stepped` gives
+  -- `stepped` puts back the slot that was taken last. If the rule holds for the words, slots and views after that, the
+  -- rule holds for the state that `stepped` gives
   stored : (held : List (ℕ × Option Content)) (c : Content) (w : View) → held ≡ (i, Some c) ∷ rest held →
       WorldRule first record { words = set s.words k (t + 1); homes = homes' c; views = set s.views id w }
       → WorldRule first (stepped s k (t + 1) id held w gives)

@@ -22,8 +22,8 @@ use Rattle.lane_table.proofs.Rule.OneLane as lane
 use Rattle.lane_table.proofs.Rule.Tickets.{each_found}
 use Rattle.lane_table.proofs.Book.BookAnswers.{half_finished}
 
--- if a pass has a ticket, the ticket is at least the serving number and below the ticket number, and the pass is its
--- owner
+-- if a pass has a ticket, the ticket is at least the serving number and below the ticket number, and `owner` maps the
+-- ticket to the pass
 has_conforms : (ticket serving : ℕ) (owner : ℕ → ℕ) (home : Home) (log : List Visit) (j : ℕ) (known : List Visit)
     (g : TicketStage) (t : ℕ) → Conforms ticket serving owner home log j known g → HasTicket g t
     → (serving ≤ t) × (t < ticket) × (owner t ≡ j)
@@ -48,7 +48,7 @@ module _ {first : ℕ} {s : St} (r : WorldRule first s) where
     holds j t v is stage = lane.holds_turn (r.lane i near) j (at_map (at i) s.views j v is) t stage
 
     -- if a pass has a ticket of lane `i`, the ticket is at least the serving number and below the ticket number, and
-    -- the pass is its owner
+    -- `owners` maps the ticket to the pass
     column_conforms : (j t : ℕ) (a : LaneView) → get_elem? (column i s.views) j ≡ some a → HasTicket a.stage t →
         (serving_of s i ≤ t) × (t < ticket_of s i) × (r.owners i t ≡ j)
     column_conforms j t a e h = has_conforms (ticket_of s i) (serving_of s i) (r.owners i) (get_elem? s.homes i) (r.logs i)
