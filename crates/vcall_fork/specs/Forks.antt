@@ -1,5 +1,5 @@
--- A vgetrandom call during which the process forked, at a point: the rest of the parent's call, and of the child's
--- call.
+-- A vgetrandom call during which the process forks at a point. The parent runs the rest of its call, and the child runs
+-- the rest of its own copy of the call.
 use Rattle.std.specs.Prelude.{ℕ, ◌≡◌, ◌≢◌, ◌≤◌, ◌==◌, ◌&&◌, ◌||◌, Bool, true, false, List, [], ◌∷◌, ◌++◌, if◌then◌else◌}
 use Rattle.key_names.specs.declared.entries.VEntry.{VEntry}
 use Rattle.key_names.specs.declared.entries.VEntry.TheVariants.{Wipe}
@@ -17,8 +17,8 @@ use Rattle.vcall_fork.specs.declared.stage.Stage.{Stage}
 use Rattle.vcall_fork.specs.Stops.{RestOfCall}
 
 -- a call at this stage, with this state and this buffer, reached `place` by the steps `before`, which left `entries`.
--- Whatever steps and entries follow from `place` on, the rest of the call has `before` and then those steps, and
--- `entries` and then those entries
+-- Whatever the rest of the call from `place` on is, its steps after `before`, with its entries after `entries`, are the
+-- rest of the call from this stage on
 abbrev pub LeadsTo : Stage → List ℕ → VgetrandomState → ℕ → ℕ → Place → List ℕ → VgetrandomState → List HostStep →
     List VEntry → Type 0
 LeadsTo stage held s n flags place out t before entries = (rest : List HostStep) (outcome : Outcome) →

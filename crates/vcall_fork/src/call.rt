@@ -29,7 +29,7 @@ pub struct VCall {
     ghost ready: { 1 ≤ published_or 1 stage },
 }
 
-// Whether the call has to stop at `place`: it is `point` of `attempt`.
+// Whether the call has to stop at `place`: whether `place` is `point` of `attempt`.
 fn is_at(place: Place, attempt: Turn, point: Point) -> bool
     ensures { result ≡ is_wanted attempt point (turn_number place.turn) place.point }
 {

@@ -67,7 +67,7 @@ pub(crate) fn call_host<R: Wait>(
 
 /// Reads random bytes for a user (`vgetrandom`), at most 2^20: out of the caller's vgetrandom state if the state can
 /// serve them, and else by the system call. The host must be new and without acts. The state's generation must not be
-/// above the last one that the caller has seen published.
+/// above the last published generation that the caller has seen.
 ///
 /// # Errors
 ///
@@ -95,7 +95,8 @@ pub fn vread<R: Wait>(
 /// Reads random bytes for a user as [`vread`](vread) does, but runs at least one of the host's acts inside. So the
 /// read is a call of `vgetrandom` from the start, and tries no copy before it.
 ///
-/// The host must be new. The state's generation must not be above the last one that the caller has seen published.
+/// The host must be new. The state's generation must not be above the last published generation that the caller has
+/// seen.
 ///
 /// # Errors
 ///
