@@ -61,8 +61,8 @@ step_onward s t (at_point point wiped) k = ran_onward s.core.set point s.asks (i
 
 -- The points of a vgetrandom call's first attempt, and those of its later attempts
 
--- of the points that a call still reaches, `active` gives those of the first attempt, and `resting` those after the
--- first attempt. Both depend on the current attempt
+-- `active` gives the points that a call still reaches in its first attempt, and `resting` gives the points that it
+-- still reaches after the first attempt. Both depend on the current attempt
 abbrev pub active : Attempt → List PointReached → List PointReached
 active Before points = first_points points
 active First points = before_start points
@@ -185,8 +185,8 @@ acted_wipes (at_point point wiped ∷ steps) asks attempt s t same now does =
     (k.wipes ∙ (λ i. is_first (next i) && wipes_at (same i) point))
     (acted_wipes steps asks (attempt_at attempt point) does.0 t (k.asks ∙ same) next does.2)
 
--- if `Ran` holds for `point`, and `AllDone` for the points `points` after it, then `AllDone` holds for all of them;
--- `point` counts only if `b` is true
+-- if `Ran` holds for `point`, and `AllDone` for the points `points` after it, then `AllDone` holds for `point` and
+-- `points` together; `point` counts only if `b` is true
 ran_done : (set : Setting) (point : Point) (wiped b : Bool) (asks : List Ask) (v w : View) (points : List PointReached)
     (xs ys zs : List ActOutcome) → Ran set point asks b v w xs ys → AllDone points asks ys zs →
     AllDone (if b then record { point = point; wiped = wiped } ∷ points else points) asks xs zs

@@ -152,7 +152,7 @@ did_rooted set l m n root base s got entry bytes x y = record {
       };
 }
 
--- a read from a CPU after its look has the form PlainRead
+-- a look, and then a read from a CPU, have the form PlainRead
 pub did_plain_read : (set : Setting) (l m n : Moment) (g place : ℕ) (taken : Taken) (bytes : List ℕ) →
     TraceRecords set l m (went.looked g ∷ []) → Served set m n (set.cpu + 2) place (Cpu (Read g None taken)) bytes
     → Makes (Serving (PlainRead (setting_of set) taken) bytes) set l n
