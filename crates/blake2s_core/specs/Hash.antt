@@ -9,7 +9,8 @@ pub record Hash : Type 0 where
   pub rest : List ℕ
   pub count : ℕ
 
--- `words` and `count` after the first n blocks of a message; none of these blocks is the message's last block
+-- `words` and `count` are the hash words and the count after the first n blocks of a message; none of these blocks is
+-- the message's last
 pub record IsAfter (words : List ℕ) (count : ℕ) (start bytes : List ℕ) (n : ℕ) : Type 0 where
   pub hashed : words ≡ fold compressed start (inner_blocks bytes n)
   pub counted : count ≡ 64 * n % 2 ^ 64

@@ -86,8 +86,8 @@ module _ (lanes : ℕ) (visits : ℕ → List Visit) (callers : StateLists) wher
     rises = subst (λ (l : List ℕ). Risen (floor v) l (floor w)) (sym (same_looks book did.made_steps))
         (sees_risen w (floor v) (floor w) did.made_steps did.recorded.went.sees)
 
-    -- if the caller had seen the core ready before, the generations published in the steps are at least 1, and each key
-    -- read in them was handed over by a CPU (`Good`)
+    -- if the caller had seen the core ready before, the steps are `Good`: each generation published in them is at least
+    -- 1, and a CPU handed over each key read in them
     pub good_here : 1 ≤ floor v → Good book steps
     good_here some =
         let g = published_by (floor v) in

@@ -55,8 +55,8 @@ abbrev pub CallsUpTo : Lists → ℕ → Turn → Point → List HostStep → Li
 CallsUpTo lists n First point before calls = (own : List Step) × (calls ≡ own ∷ []) × IsShown lists 0 before own
 CallsUpTo lists n Second point before calls = CallsUpToSecond lists n point before calls
 
--- one of the two ends of the forked call: `caller` ran the call, with the buffer `held` and the state `s`, from where
--- it was stopped to its end. The call's host made `steps`, and the call gave the bytes `out`
+-- one of the two ends of the forked call: `caller` ran the call, with the buffer `held` and the state `s`, from its
+-- stop to its end. The call's host made `steps`, and the call gave the bytes `out`
 pub record IsEnd (lists : Lists) (caller n : ℕ) (place : Place) (held : List ℕ) (s : VgetrandomState) (out : List ℕ)
     : Type 0 where
   pub steps : List HostStep

@@ -248,7 +248,8 @@ acted_done (at_point point wiped ∷ steps) asks attempt s t same now long does 
     (ran_long s.core.set point (is_first (attempt_at attempt point)) asks _ _ s.outcomes does.0.outcomes long ran)
     does.2))
 
--- if `Ran` holds from the view `v` to `w`, and the outcomes `xs` have their acts' meanings, so do the outcomes `ys`
+-- if `Ran` holds from the view `v` to `w`, and the outcomes `xs` have their acts' meanings, the outcomes `ys` have them
+-- too
 ran_meant : (set : Setting) (point : Point) (b : Bool) (asks : List Ask) (v w : View) (xs ys : List ActOutcome) →
     Ran set point asks b v w xs ys → AllMeant set v asks xs → AllMeant set w asks ys
 ran_meant set point true asks v w xs ys k all = meant_at set point asks v w xs ys k all

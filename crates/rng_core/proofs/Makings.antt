@@ -258,8 +258,8 @@ did_bits set m n place b s got x is = record {
   };
 }
 
--- the effects are those of two successive calls. P holds for the effects of the first call, and Q for those of the
--- second
+-- the effects are the effects of two successive calls: P holds for the effects of the first call, and Q for the effects
+-- of the second
 pub record After (P Q : List Effect → Type 0) (effects : List Effect) : Type 0 where
   pub first : List Effect
   pub rest : List Effect

@@ -56,7 +56,7 @@ pub record Published (s : Conform) (g : ℕ) (t : Conform) : Type 0 where
   pub known : found ≤ floor t.moment.view
   pub recorded : recorded.TraceRecords s.set s.moment t.moment (looked found ∷ [])
 
--- a system call for `n` bytes with the flags `flags` has these effects, and `answer` is its answer
+-- a system call for `n` bytes with the flags `flags` has these effects, and `answer` is the call's answer
 pub record SystemCall (set : CallSetting) (n flags : ℕ) (answer : SystemAnswer) (effects : List Effect) : Type 0 where
   pub form : SysForm set n flags effects
   pub answers : answer ≡ answer_after flags effects

@@ -57,8 +57,8 @@ ChildTakesKey = (n flags : ℕ) (place : Place) (out : List ℕ) (steps : List H
     (high : ℕ) (bytes : List ℕ) → AfterPlace n flags place out wiped_state steps outcome → 1 ≤ place.published →
     Climbs place.published high steps → outcome.ending ≡ by_batch bytes → takes_key false steps ≡ true
 
--- in a lawful book the vgetrandom states of two callers never use the same byte of a key's keystream, so no byte comes
--- out of both the parent's state and the child's
+-- in a lawful book the vgetrandom states of two callers never use the same byte of a key's keystream. So the parent's
+-- state and the child's state never give out the same byte
 abbrev pub ForksShareNothing : Type 0
 ForksShareNothing = (lists : Lists) → LawfulBook lists →
     (parent child : ℕ) (parents_state childs_state parents_place childs_place : ℕ) → parent ≢ child →

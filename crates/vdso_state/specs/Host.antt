@@ -35,8 +35,8 @@ abbrev pub doings : {H : Type 0} → (H → ℕ → H → Type 0) → (H → ℕ
 doings publishes_as answers_as passes_as =
     record { publishes_as = publishes_as; answers_as = answers_as; passes_as = passes_as }
 
--- the system call for a new key had this answer and this result, and changed the state from `before` to `after`. If it
--- failed, the key of `after` may be any list of bytes
+-- the system call for a new key had this answer and this result, and changed the state from `before` to `after`. If the
+-- system call failed, the key of `after` may be any list of bytes
 abbrev pub KeyIsRead : SystemAnswer → Result (Unit {0}) Errno → VgetrandomState → VgetrandomState → Type 0
 KeyIsRead (read key visit) result before after = (result ≡ Ok tt) × (after ≡ record before { key = key; pos = 96 })
 KeyIsRead (failed errno) result before after =

@@ -15,10 +15,10 @@ use key_names::{Errno, Step};
 use std::sync::Wait;
 use vdso_state::{Local, VEnd, VState, local, vgetrandom};
 
-/// Copies bytes of the batch over all of `buf` if the state's key is of the published generation, no call is using the
-/// state, and the batch has enough bytes left. Otherwise the state and `buf` stay as they were. With no bytes to read
-/// or with bad flags the call does not even look. It never waits. A look that leads to no copy is not recorded in the
-/// trace.
+/// Copies bytes of the batch over all of `buf` if three conditions hold: the state's key is of the published
+/// generation, no call is using the state, and the batch has enough bytes left. Otherwise the state and `buf` stay as
+/// they were. If there are no bytes to read or the flags are bad, the call does not even look at the generation. It
+/// never waits. A look that leads to no copy is not recorded in the trace.
 pub fn vread_local(site: &mut Site, st: &mut VState, buf: &mut [u8], flags: u32) -> Local
     requires { IsIdle 1 site.old }
     ensures reads { ReadsLocally result (length buf.old) flags st.old st.new buf.new site.old site.new }
