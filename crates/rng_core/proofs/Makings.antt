@@ -1,5 +1,5 @@
--- The effects of calls follow from their visits: two successive calls make the effects of both, and the visits that
--- most calls share have their forms.
+-- The effects of calls follow from their visits: two successive calls have the effects of both, and the visits that
+-- many calls make have the forms that `key_names` defines.
 use Rattle.std.proofs.Common.{◌≡◌, ℕ, ◌+◌, ◌<◌, ◌≤◌, length, arith, List, [], ◌∷◌, ◌++◌, map, Some, None, sym, refl, ap, ◌∙◌, subst, append-nil}
 use Rattle.std.proofs.lemmas.List.{map-append}
 use Rattle.key_names.specs.declared.entries.Taken.{Taken}

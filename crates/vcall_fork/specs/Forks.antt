@@ -42,7 +42,8 @@ ForksAreRecorded = (stage : Stage) (held : List ℕ) (s : VgetrandomState) (n fl
     LeadsTo stage held s n flags place out t before entries →
     ForkIsRecorded stage held s n flags place out t before entries
 
--- whether a key was read in the last attempt of the given steps; `taken` is whether a key was read before these steps
+-- whether the last attempt in the given steps read a key; `taken` is whether the attempt that these steps continue had
+-- read one before
 abbrev pub takes_key : Bool → List HostStep → Bool
 takes_key taken [] = taken
 takes_key taken (publishes g ∷ steps) = takes_key taken steps
@@ -57,8 +58,8 @@ ChildTakesKey = (n flags : ℕ) (place : Place) (out : List ℕ) (steps : List H
     (high : ℕ) (bytes : List ℕ) → AfterPlace n flags place out wiped_state steps outcome → 1 ≤ place.published →
     Climbs place.published high steps → outcome.ending ≡ by_batch bytes → takes_key false steps ≡ true
 
--- in a lawful book the vgetrandom states of two callers never use the same byte of a key's keystream. So the parent's
--- state and the child's state never give out the same byte
+-- in a lawful book the vgetrandom states of two callers never use the same byte of a key's keystream. So no byte of a
+-- keystream comes out of both the parent's state and the child's state
 abbrev pub ForksShareNothing : Type 0
 ForksShareNothing = (lists : Lists) → LawfulBook lists →
     (parent child : ℕ) (parents_state childs_state parents_place childs_place : ℕ) → parent ≢ child →
