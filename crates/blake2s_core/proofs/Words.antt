@@ -11,12 +11,12 @@ use Rattle.key_names.specs.Kernel.Blake2s.{u32_at}
 pub by_places : (v : List ℕ) (n : ℕ) → length v ≡ n → v ≡ map (slice_index v) (range_with_len 0 n)
 by_places v n len = fill_by_all (slice_index v) v n 0 len (λ k below. refl)
 
--- `little_number` and `u32_at` read the same number from the four bytes from byte `4 * k` on
+-- `little_number` and `u32_at` read the same number from the four bytes that begin at byte `4 * k`
 little_number-u32_at : (bytes : List ℕ) (k : ℕ) → little_number 4 (drop (4 * k) bytes) ≡ u32_at bytes k
 unfolding u32_at
 little_number-u32_at bytes k = simp (get_or-drop, add-zero) (omega arith)
 
--- if `words` were read from `bytes`, word k is the one that begins at byte `4 * k`
+-- if `words` were read from `bytes`, word k begins at byte `4 * k` of `bytes`
 pub read_words : (bytes words : List ℕ) (n : ℕ) → length words ≡ n → IsRead little_number 4 bytes words
     → words ≡ map (u32_at bytes) (range_with_len 0 n)
 read_words bytes words n len read =

@@ -9,13 +9,14 @@ pub record Hash : Type 0 where
   pub rest : List ℕ
   pub count : ℕ
 
--- the hash words and the count after the first n blocks of a message; none of these is the message's last block
+-- `words` and `count` are the hash words and the count after the first n blocks of a message; none of these blocks is
+-- the message's last
 pub record IsAfter (words : List ℕ) (count : ℕ) (start bytes : List ℕ) (n : ℕ) : Type 0 where
   pub hashed : words ≡ fold compressed start (inner_blocks bytes n)
   pub counted : count ≡ 64 * n % 2 ^ 64
 
--- the hash matches the key and the text: of the message that both make, all blocks but the last were hashed, and the
--- last is kept
+-- the hash matches the key and the text, which together make a message: all blocks of the message but the last were
+-- hashed, and the last is kept
 pub record Conforms (hash : Hash) (key : Option (List ℕ)) (text : List ℕ) : Type 0 where
   pub blocks : IsAfter hash.words hash.count (start_words (key_len key)) (message key text)
       (inner_count (message key text))

@@ -1,4 +1,4 @@
--- The bytes that `rand_chacha`'s generator and the block function write are those of `keystream`.
+-- The bytes that `rand_chacha`'s generator and the block function write are the bytes of `keystream`.
 use Rattle.std.proofs.Common.{zero, suc, ◌+◌, ◌*◌, ◌/◌, ◌%◌, ◌^◌, ◌<◌, ◌≤◌, ◌++◌, ap, ap₂, sym, ◌∙◌, arith, ◌≡◌, ℕ, List, length, map, refl, w32}
 use Rattle.std.specs.List.{flat_map, range_with_len}
 use Rattle.std.specs.Int.{to_le_bytes}

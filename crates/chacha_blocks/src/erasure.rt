@@ -82,8 +82,8 @@ pub fn erase_and_fill(key: &mut [u8; 32], buf: &mut [u8])
     }
 }
 
-/// Replaces the key by bytes 0 to 32 of its own keystream, and returns bytes 32 to 64 as another key. This other key is
-/// that of a CPU, if `key` is the base key, or that of one user's read of more than 32 bytes.
+/// Replaces the key by bytes 0 to 32 of its own keystream, and returns bytes 32 to 64 as another key. The other key is
+/// for a CPU, if `key` is the base key, or for one user's read of more than 32 bytes.
 pub fn derive_key(key: &mut [u8; 32]) -> [u8; 32]
     ensures erased { key.new ≡ keystream key.old 0 32 }
     ensures derived { result ≡ keystream key.old 32 32 }

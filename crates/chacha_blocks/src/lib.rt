@@ -1,10 +1,10 @@
 //! The ChaCha20 keystream by byte position, and fast key erasure: `chacha20_block` of lib/crypto and
 //! `crng_fast_key_erasure`, `_get_random_bytes` and `get_random_bytes_user` of drivers/char/random.c.
 //!
-//! The cipher is that of RFC 8439 with nonce zero and a block counter of 64 bits. Each key has 2^64 blocks of 64 bytes,
-//! and block `b` begins at byte `64 * b`. Contracts give the bytes by the function `keystream key from len` of
-//! `key_names`, which carries no state. The crate makes one or two blocks itself, and uses `rand_chacha` for whole runs
-//! of four blocks.
+//! The cipher is ChaCha20 as in RFC 8439, with nonce zero and a block counter of 64 bits. Each key has 2^64 blocks of
+//! 64 bytes, and block `b` begins at byte `64 * b`. Contracts give the bytes by the function `keystream key from len`
+//! of `key_names`, which carries no state. The crate makes one or two blocks itself, and uses `rand_chacha` for whole
+//! runs of four blocks.
 //!
 //! # Example
 //!

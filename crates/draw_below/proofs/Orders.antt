@@ -31,7 +31,7 @@ untouched last (d ∷ ds) xs k above low drawn =
     ∙ get_moved xs last d k (omega arith) (omega (arith, drawn.0))
     ∙ ap (λ m. get_or xs m 0) (moved_other last d k (omega arith) (omega (arith, drawn.0)))
 
--- after the exchanges, the item at `last` is the one that was at the first drawn place
+-- after the exchanges, the item at `last` is the item that was at the first drawn place
 last_item : (last d : ℕ) (ds xs : List ℕ) → 0 < last → last < length xs → AreDraws last (d ∷ ds) →
     get_or (exchanged last (d ∷ ds) xs) last 0 ≡ get_or xs d 0
 last_item last d ds xs some low drawn =
@@ -69,8 +69,8 @@ Covers xs ys = (k : ℕ) → k < length ys → (p : ℕ) × (p < length xs) × (
 abbrev AgreeAfter : ℕ → List ℕ → List ℕ → Type 0
 AgreeAfter last xs ys = (k : ℕ) → last < k → k < length xs → get_or xs k 0 ≡ get_or ys k 0
 
--- if `xs` has all items of `ys`, and both have the same items above `last`, then the item of `ys` at `last` is in `xs`,
--- at `last` or at a lower place
+-- suppose that `xs` and `ys` have the same length, that all items of `ys` are different, and that `xs` has all of them.
+-- If both have the same items above `last`, the item of `ys` at `last` is in `xs`, at `last` or at a lower place
 place_of : (last : ℕ) (xs ys : List ℕ) → last < length xs → length xs ≡ length ys → AreDifferent ys → Covers xs ys →
     AgreeAfter last xs ys → (p : ℕ) × (p ≤ last) × (get_or xs p 0 ≡ get_or ys last 0)
 place_of last xs ys low n apart covers agree =

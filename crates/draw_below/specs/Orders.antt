@@ -5,8 +5,8 @@ use Rattle.std.specs.List.Sorted.{IsPermutation}
 use Rattle.draw_below.specs.declared.draws.DrawSpent.{DrawSpent}
 use Rattle.draw_below.specs.Draws.{Draws, Spends}
 
--- the list after exchanges: the item at `last` is exchanged with the item at the first drawn place, then the item at
--- `last - 1` with the item at the second drawn place, and so on
+-- the list after exchanges. First the item at `last` is exchanged with the item at the first drawn place. Then the item
+-- at `last - 1` is exchanged with the item at the second drawn place, and so on
 abbrev pub exchanged : ℕ → List ℕ → List ℕ → List ℕ
 exchanged last [] items = items
 exchanged last (d ∷ ds) items = exchanged (last - 1) ds (swap items last d)

@@ -16,8 +16,8 @@ use Rattle.rng_core.specs.Settings.{first_setting}
 use Rattle.draw_below.specs.Draws.{accepts, value_of}
 use Rattle.draw_below.specs.declared.table_draws.Drawn.{Drawn}
 
--- the results if the current draw is spent (it rejected 128 words) and the given words are left: only `None`, since a
--- spent draw is the last one. If a word is left, the function itself gives `None`
+-- the results if the current draw is spent (it rejected 128 words), and the given words come after it. Without such a
+-- word the only result is `None`, since a spent draw is the last one. Otherwise the function itself gives `None`
 abbrev pub spent_before : List ℕ → Option (List (Option ℕ))
 spent_before [] = Some (None ∷ [])
 spent_before (r ∷ rs) = None
@@ -37,7 +37,7 @@ draws_in c (suc n) tried (r ∷ rs) =
 abbrev pub ends_of : Drawn → List (Option ℕ)
 ends_of drawn = map Some drawn.answers.items ++ (if drawn.spent then None ∷ [] else [])
 
--- in `lists`, `steps` are those of a call that read an integer of 4 bytes, and `word` has these bytes, the lowest first
+-- in `lists`, a call with the steps `steps` read an integer of 4 bytes, and `word` has these bytes, the lowest first
 pub record IsWordCall (lists : Lists) (word : ℕ) (steps : List Step) : Type 0 where
   pub bytes : List ℕ
   pub fulfils : IsOutcomeOf (setting_of (first_setting 0)) Int32 Done (bytes_or_none bytes) (effects_of lists steps)
@@ -54,8 +54,8 @@ AreWordCalls lists (word ∷ words) (steps ∷ calls) = IsWordCall lists word st
 abbrev pub marks_of : List (List Step) → List MarkBy
 marks_of calls = flat_map (marks_from 0 0 0) calls
 
--- A lawful and disjoint book of one CPU has exactly these visits: those of one `add`, which makes the core ready, and
--- then, for each word in order, those of a call that reads an integer.
+-- A lawful and disjoint book of one CPU has exactly the visits of these calls: one `add`, which makes the core ready,
+-- and then, for each word in order, one call that reads the word as an integer.
 pub record AreTableWords (words : List ℕ) : Type 0 where
   pub book : Book
   pub cpus : length book.cpus ≡ 1

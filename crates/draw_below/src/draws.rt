@@ -13,8 +13,8 @@ const WORDS: u64 = 1 << 32;
 #[derive(Clone, Copy, Debug, PartialEq, Eq)]
 pub struct DrawSpent;
 
-// Whether a word is accepted, if `low` is the low half of the word's product with `c`. The check divides only if `low`
-// is below `c`.
+// Whether a word is accepted; `low` is the low half of the word's product with `c`. The check divides only if `low` is
+// below `c`.
 fn is_accepted(c: u32, low: u32) -> bool
     requires { 0 < c }
     ensures { result ≡ nat_le (2 ^ 32 % c) low }

@@ -10,7 +10,7 @@ use std::sync::Wait;
 
 /// Shuffles a list of at most 65,536 items. If all words are equally likely, so are all orders of different items.
 ///
-/// For each place from the last down to the second, the function draws one of the places up to this place, and
+/// For each place from the last down to the second, the function draws one of the places up to this place. It then
 /// exchanges the items at the two places. `rejected` is empty after success: the last of these draws has the bound 2,
 /// and rejects no word.
 ///

@@ -82,10 +82,10 @@ fn draw_by_pass<R: Wait>(
     draw_from(rt, &mut words, c, count)
 }
 
-/// Makes a core with one CPU ready by a first sample: 32 bytes that count up from 0, with a credit of 256 bits. Then it
-/// draws `count` numbers below `c`; `count` is at most 1,000. The words are the integers of 4 bytes that caller 0
-/// reads. If `c` is 0, the integers themselves are the numbers. If a draw is spent (`DrawSpent`), it is the last one.
-/// All calls have CPU 0, the moment 0 and hardware words 0.
+/// Makes a core with one CPU, and adds a first sample that makes the core ready: 32 bytes that count up from 0, with a
+/// credit of 256 bits. Then it draws `count` numbers below `c`; `count` is at most 1,000. The words are the integers of
+/// 4 bytes that caller 0 reads. If `c` is 0, the integers themselves are the numbers. If a draw is spent (`DrawSpent`),
+/// it is the last one. All calls have CPU 0, the moment 0 and hardware words 0.
 ///
 /// # Errors
 ///

@@ -601,7 +601,7 @@ module _ (turn : Turn) (point : Point) (n : ℕ) (p q w x : View) (left : Stage)
       childs_rest = child_later;
     }
 
--- suppose that the arguments which the code passed equal those above; then the facts hold for what the code did
+-- if the arguments that the code passed equal the arguments above, the facts hold for what the code did
 module _ (set : Setting) (n m k f g : ℕ) (s : VgetrandomState) (plain : set ≡ first_setting 0) (same : m ≡ n)
     (again : k ≡ m) (none : f ≡ 0) (none_again : g ≡ f) (wiped : s ≡ wiped_state) where
   pub plain_sample : (p q : View) → ((own : List Step)

@@ -33,8 +33,8 @@ one_of_them xs ys = go (nat_lt (length xs) (length ys))
     go true = inr refl
     go false = inl refl
 
--- if each of the two views `v` and `w` has seen a generation that is published as `low` or a higher number, so has the
--- joined view
+-- if each of the two views `v` and `w` has seen a generation that is published as `low` or a higher number, the joined
+-- view has seen one too
 pub joined_floor : (low : ℕ) (v w : View) → length v.lanes ≡ length w.lanes → low ≤ published_by (floor v) →
     low ≤ published_by (floor w) → low ≤ published_by (floor (both_of v w))
 joined_floor low v w long first second =

@@ -47,8 +47,8 @@ module _ (lists : Lists) (ps cs : List VEntry) (callers_are : lists.callers ≡ 
   or_false true is = refl
   or_false false is = is
 
-  -- if read p of CPU c is taken as a key in the book, an entry in `ps` or in `cs`, the lists of the two states, takes
-  -- it
+  -- if the book takes read p of CPU c as a key, an entry of `ps` or of `cs`, the lists of the two states, takes this
+  -- read
   pub rekeyed_counts : (c p : ℕ) → is_rekeyed lists c p ≡ true → 1 ≤ takes c p ps + takes c p cs
   rekeyed_counts c p is =
       let any : List VEntry → Bool = λ es. list_any (rekeys_place c p) es in

@@ -1,5 +1,5 @@
--- After a look that found the core ready, each generation that a call's host publishes is at least 1. Each key that the
--- call reads is one that a CPU handed over.
+-- After a look that found the core ready, each generation that a call's host publishes is at least 1. A CPU handed over
+-- each key that the call reads.
 use Rattle.std.proofs.Common.{◌≡◌, ℕ, zero, suc, ◌≤◌, Bool, true, List, [], ◌∷◌, ◌++◌, map, refl, sym, subst, ap, arith}
 use Rattle.key_names.specs.declared.names.Step.{Step}
 use Rattle.key_names.specs.declared.point.Point.{Point}
@@ -26,7 +26,7 @@ use Rattle.rng_core.proofs.ActRuns.{Risen, sees_risen}
 use Rattle.rng_core.proofs.Readings.{never_fall, same_looks}
 use Rattle.fork_runs.specs.Runs.{DidAll}
 
--- if the published generation of g is not 0, then g, which a look found, is at least 1
+-- if the generation published after a look that found `g` is at least 1, `g` is at least 1
 pub found_some : (g : ℕ) → 1 ≤ published_by g → 1 ≤ g
 found_some zero h = absurd (omega arith)
 found_some (suc g) h = omega arith
@@ -35,7 +35,7 @@ pub publishes_some : (g : ℕ) → 1 ≤ g → 1 ≤ published_by g
 publishes_some zero h = absurd (omega arith)
 publishes_some (suc g) h = omega arith
 
--- if a caller has seen the generation that a stopped call had published, it has seen the core ready
+-- if a caller has seen the generation that a stopped call read last, the caller has seen the core ready
 pub seen_ready : (seen : ℕ) (stage : Stage) → 1 ≤ published_or 1 stage → is_stopped stage ≡ true →
     published_or 0 stage ≤ published_by seen → 1 ≤ seen
 seen_ready seen New ready conforms known = absurd (cc conforms)
@@ -86,8 +86,8 @@ module _ (lanes : ℕ) (visits : ℕ → List Visit) (callers : StateLists) wher
     rises = subst (λ (l : List ℕ). Risen (floor v) l (floor w)) (sym (same_looks book did.made_steps))
         (sees_risen w (floor v) (floor w) did.made_steps did.recorded.went.sees)
 
-    -- if the caller had seen the core ready before, the generations published in the steps are at least 1, and each key
-    -- read in them was handed over by a CPU (`Good`)
+    -- if the caller had seen the core ready before, the steps are `Good`: each generation published in them is at least
+    -- 1, and a CPU handed over each key read in them
     pub good_here : 1 ≤ floor v → Good book steps
     good_here some =
         let g = published_by (floor v) in

@@ -73,7 +73,7 @@ passed point GoesOn s steps attempt k smooth =
 abbrev end_by : ℕ → ℕ → AttemptEnd
 end_by generation found = if generation == found then holds else outdated
 
--- from some point of an attempt on, its steps are `front`, and then its last look
+-- from some point of an attempt on, the attempt's steps are `front`, and then the attempt's last look
 record Left (front : List HostStep) (s : VgetrandomState) (steps : List HostStep) (attempt : Attempt) : Type 0 where
   found : ℕ
   steps_are : steps ≡ front ++ publishes found ∷ []

@@ -30,15 +30,15 @@ use Rattle.fork_runs.specs.Runs.{DidAll, ReachedStop}
 use Rattle.fork_runs.proofs.Joining.{floor_child, joined_floor}
 use Rattle.fork_runs.proofs.TwoStops.{stop_then}
 
--- if a caller has seen the generation that its stopped call had published, it still has after another call
+-- if a caller has seen the generation that its stopped call read last, the same holds after another call
 pub known_on : {P : List Effect → Type 0} (set : Setting) (left : Stage) (v w : View) (own : List Step) →
     published_or 0 left ≤ published_by (floor v) → DidAll P set v own w →
     published_or 0 left ≤ published_by (floor w)
 known_on set left v w own low did =
     let a = published_more (floor v) (floor w) (did_floor set (knowing v []) (knowing w own) did) in omega arith
 
--- if a caller has seen the generation that its stopped call had published, both the parent's and the child's pass have
--- after a fork
+-- if a caller has seen the generation that its stopped call read last, the parent's pass and the child's pass have seen
+-- it too after a fork
 pub parent_known : (stage : Stage) (v before w : View) → published_or 0 stage ≤ published_by (floor v) →
     floor v ≤ floor before → w ≡ halved before → published_or 0 stage ≤ published_by (floor w)
 parent_known stage v before w low up is =

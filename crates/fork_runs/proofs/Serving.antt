@@ -21,7 +21,7 @@ use Rattle.rng_core.proofs.Acting.{acted_onward}
 use Rattle.fork_runs.specs.Coming.{EndsGiveBytes, IsGiven}
 use Rattle.fork_runs.specs.Stretches.{AreServed, IsServed}
 
--- if a caller has seen the core ready before a step, it still has after the step
+-- if a caller has seen the core ready before a step, the same holds after the step
 stays_ready : (s t : ActConform) (step : HostStep) → 1 ≤ floor s.core.moment.view → Does acting s step t →
     1 ≤ floor t.core.moment.view
 stays_ready s t step ready does = let a = (acted_onward (step ∷ []) s t (t, does, refl)).floors in omega arith

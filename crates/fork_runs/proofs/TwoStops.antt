@@ -1,6 +1,6 @@
--- If a call is stopped in its first attempt, goes on, and is stopped in its second attempt, the second stop is one of
--- the whole call. If a stopped call forks, the state was not wiped there in the parent's call, and was wiped there in
--- the child's.
+-- If a call is stopped in its first attempt, goes on, and is stopped in its second attempt, the second stop is a stop
+-- of the whole call. If a stopped call forks, the state is not wiped at that point in the parent's call, and is wiped
+-- at that point in the child's call.
 use Rattle.std.proofs.Common.{◌≡◌, ℕ, false, true, List, [], ◌∷◌, ◌++◌, refl, sym, subst, append_assoc}
 use Rattle.std.specs.List.{AllByRecursion}
 use Rattle.key_names.specs.declared.entries.VEntry.{VEntry}

@@ -46,8 +46,8 @@ IsGiven no_bytes = ⊥
 IsGiven (by_batch bytes) = ⊤
 IsGiven (by_system answer) = IsRead answer
 
--- if the flags of a stopped call are good, and each system call from then on reads its bytes, the rest of the call
--- gives bytes, wherever it was stopped
+-- take a call with good flags that is stopped at any point. If each system call from then on reads its bytes, the rest
+-- of the call gives bytes
 abbrev pub EndsGiveBytes : Type 0
 EndsGiveBytes = (n flags : ℕ) (place : Place) (out : List ℕ) (s : VgetrandomState) (steps : List HostStep)
     (outcome : Outcome) → is_bad flags ≡ false → AreServed steps → AfterPlace n flags place out s steps outcome →

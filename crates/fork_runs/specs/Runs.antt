@@ -54,8 +54,8 @@ RanBy set n flags s First point before v calls w =
     (own : List Step) × (calls ≡ own ∷ []) × DidAll (Shows (setting_of set) before) set v own w
 RanBy set n flags s Second point before v calls w = RanBySecond set n flags s point before v calls w
 
--- from `v` to `w` a caller ran a new vgetrandom call to a point of an attempt, where it is stopped with this stage,
--- buffer and state
+-- from `v` to `w` a caller ran a new vgetrandom call to a point of an attempt. The call is stopped there, with this
+-- stage, buffer and state
 pub record ReachedStop (set : Setting) (n flags : ℕ) (s : VgetrandomState) (turn : Turn) (point : Point)
     (left : Stage) (out : List ℕ) (t : VgetrandomState) (v w : View) : Type 0 where
   pub stop : Stop (IsCall n flags s) n flags turn point

@@ -1,5 +1,5 @@
--- A vgetrandom call whose host is a caller over the lanes: the part of it up to where it is stopped, and the part from
--- there to its end.
+-- A vgetrandom call whose host is a caller over the lanes. One part runs up to the point at which the call is stopped,
+-- and the other part from there to the call's end.
 use Rattle.std.specs.Prelude.{ℕ, ◌≡◌, ◌≤◌, ⊤, false, List, ◌++◌}
 use Rattle.std.specs.List.{AllByRecursion}
 use Rattle.key_names.specs.declared.entries.VEntry.{VEntry}

@@ -31,7 +31,7 @@ use Rattle.rng_core.specs.Makes.{IsOutcomeOf, setting_of}
 use Rattle.rng_core.specs.Settings.{first_setting}
 use Rattle.fork_runs.specs.Stretches.{AreUnwiped, Stop, GivesBytes}
 
--- the steps `own` of the caller show that its host made `steps` (`Shows`)
+-- in `lists`, the caller's own steps `own` are the steps of a vgetrandom call whose host made `steps` (`Shows`)
 abbrev pub IsShown : Lists → ℕ → List HostStep → List Step → Type 0
 IsShown lists caller steps own = Shows (setting_of (first_setting caller)) steps (effects_of lists own)
 
@@ -55,8 +55,8 @@ abbrev pub CallsUpTo : Lists → ℕ → Turn → Point → List HostStep → Li
 CallsUpTo lists n First point before calls = (own : List Step) × (calls ≡ own ∷ []) × IsShown lists 0 before own
 CallsUpTo lists n Second point before calls = CallsUpToSecond lists n point before calls
 
--- one of the two ends of the forked call: `caller` ran the call, with the buffer `held` and the state `s`, from where
--- it was stopped to its end. The call's host made `steps`, and the call gave the bytes `out`
+-- one of the two ends of the forked call: `caller` ran the call, with the buffer `held` and the state `s`, from its
+-- stop to its end. The call's host made `steps`, and the call gave the bytes `out`
 pub record IsEnd (lists : Lists) (caller n : ℕ) (place : Place) (held : List ℕ) (s : VgetrandomState) (out : List ℕ)
     : Type 0 where
   pub steps : List HostStep
@@ -71,20 +71,20 @@ pub record IsEnd (lists : Lists) (caller n : ℕ) (place : Place) (held : List �
 abbrev pub call_entries : ℕ → List VEntry → StateEntries
 call_entries caller entries = record { caller = caller; state = 0; from = 0; count = length entries }
 
--- a line's data are `out`, by the rule for a transcript: its origins serve `out`, each as a named span. There is no
--- origin, or the origin is the last visit of the line's steps, or the origins are entries in `own`, which the line's
+-- a line's data are `out`, by the rule for a transcript: the line's origins serve `out`, each as a named span. The line
+-- has no origin, or its origin is the last visit of its steps, or its origins are entries in `own`, which the line's
 -- own call left
 pub record ShowsNamed (lists : Lists) (own : StateEntries) (steps : List Step) (out : List ℕ) : Type 0 where
   pub origins : List Origin
   pub by : PrintsBy own steps origins
   pub shown : out ≡ served_in lists (origins_uses lists origins)
 
--- the lists of the two vgetrandom states. The parent's has the entries of the parent's whole call. The child's starts
--- wiped, and has the entries of the child's part of the call
+-- the lists of the two vgetrandom states. The parent's list has the entries of the parent's whole call. The child's
+-- state starts wiped, and its list has the entries of the child's part of the call
 abbrev pub two_states : List VEntry → List VEntry → List (List (List VEntry))
 two_states parents childs = (parents ∷ []) ∷ (childs ∷ []) ∷ []
 
--- the visits (marks) of `calls`, which are a caller's calls, with the steps of each call numbered from 0
+-- the marks of the visits that a caller made in the calls `calls`, with the steps of each call numbered from 0
 abbrev pub marks_of : ℕ → List (List Step) → List MarkBy
 marks_of caller calls = flat_map (marks_from caller 0 0) calls
 
@@ -112,10 +112,10 @@ pub record AreForkedBytes (turn : Turn) (point : Point) (n : ℕ) (parent child 
   pub parent_end : IsEnd (lists_of book) 0 n stop.place stop.held stop.state parent
   pub child_end : IsEnd (lists_of book) 1 n stop.place stop.held wiped_state child
   pub callers_are : book.callers ≡ two_states (stop.entries ++ parent_end.outcome.entries) child_end.outcome.entries
-  -- the two parts of the parent's call are together one call, whose state was not wiped at the point where it forked
+  -- the two parts of the parent's call together are one call, whose state was not wiped at the point of the fork
   pub parent_call : IsCall n 0 wiped_state (stop.before ++ at_point point false ∷ parent_end.steps)
       (prefix_outcome stop.entries parent_end.outcome)
-  -- the child's call has the parent's steps before the point where it forked, and its state was wiped at that point
+  -- the child's call has the parent's steps before the point of the fork, and its state was wiped at that point
   pub child_call : IsCall n 0 wiped_state (stop.before ++ at_point point true ∷ child_end.steps)
       (prefix_outcome stop.entries (prefix_outcome (Wipe ∷ []) child_end.outcome))
   -- if the batch of the child's state gave the child's bytes, the child read a key after the fork, in the attempt that

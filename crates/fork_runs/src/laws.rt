@@ -1,5 +1,5 @@
-//! The laws by which a vgetrandom call on a new table reaches each point at which it can fork, and gives bytes after
-//! it. Each law is the contract of a function without code.
+//! The laws by which a vgetrandom call on a new table reaches each point at which it can fork, and then gives bytes.
+//! Each law is the contract of a function without code.
 ghost use Rattle.fork_runs.specs.Coming.{FirstAttemptComes, SecondAttemptComes, EndsGiveBytes};
 
 use vcall_fork::laws::forks_are_recorded;

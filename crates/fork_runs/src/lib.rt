@@ -20,10 +20,10 @@
 //!
 //! # Proved
 //!
-//! - [`fork_on_new_table`]: the call reaches the given point, and the bytes are those with which it ends in the parent
-//!   and in the child. One lawful book has exactly the visits of the sample, of the calls and of the fork, and the
-//!   child's visits come after the parent's. Both results are bytes of named spans, and no byte of a key's keystream is
-//!   in both.
+//! - [`fork_on_new_table`]: the call reaches the given point, and the results are the bytes that the call gives in the
+//!   parent and in the child. One lawful book has exactly the visits of the sample, of the calls and of the fork, and
+//!   the child's visits come after the parent's. Both results are bytes of named spans, and no byte of a key's
+//!   keystream is in both.
 //! - [`laws::first_attempt_comes`] and [`laws::second_attempt_comes`]: conditions for a call to reach each point of an
 //!   attempt.
 //! - [`laws::ends_give_bytes`]: conditions for the rest of a stopped call to end with bytes.

@@ -70,7 +70,7 @@ fn run_on_host<R: Wait>(
     }
 }
 
-/// Runs a call to a point of an attempt, on a core that its caller has seen to be ready. Returns whether the call is
+/// Runs a call to a point of an attempt, on a core that the caller has seen to be ready. Returns whether the call is
 /// stopped at this point. If not, the call is over, and never reached the point.
 pub(crate) fn run_to<'x, R: Wait>(
     rt: &'x R,
@@ -131,7 +131,7 @@ fn finish_on_host<R: Wait>(host: &mut LaneHost<'_, R>, call: VCall, st: &mut VSt
     let _ended = call.finish(host, st, buf);
 }
 
-/// Runs a stopped call without flags to its end, at which it has given bytes.
+/// Runs a stopped call without flags to its end. The call gives its bytes in `buf`.
 pub(crate) fn finish<'x, R: Wait>(
     rt: &'x R,
     caller: &TableCaller<'x>,

@@ -30,7 +30,7 @@ use vcall_fork::laws::{child_takes_key, forks_are_recorded};
 use vcall_fork::{Point, Turn, VCall};
 use vdso_state::VState;
 
-/// The bytes that a forked vgetrandom call gave in the parent, and those that it gave in the child.
+/// The bytes that a forked vgetrandom call gave in the parent, and the bytes that it gave in the child.
 #[derive(Drop)]
 pub struct ForkedBytes {
     pub parent: Vec<u8>,
@@ -53,8 +53,8 @@ fn make_ready<R: Wait>(rt: &R, lanes: &Lanes, pass: &mut Pass, set: Setting)
     lanes.settle(pass);
 }
 
-// Reseeds the core, which the caller has seen to be ready. The generation is then above each one that the caller had
-// seen.
+// Reseeds the core, which the caller has seen to be ready. After that the caller has seen a higher generation than
+// before.
 fn reseed_once<R: Wait>(rt: &R, caller: &TableCaller, pass: &mut Pass)
     requires has { HoldsLanes caller.now.lanes.now caller.now.set.caller [] pass.old }
     requires moment { caller.now.set.now < 2 ^ 40 }
@@ -111,8 +111,8 @@ fn reach_first<R: Wait>(
     }
 }
 
-// Runs a new call to the point `point` of its second attempt. It is stopped before at the point Serve of its first
-// attempt, and the core is reseeded there.
+// Runs a new call to the point `point` of its second attempt. Before that, the call is stopped at the point Serve of
+// its first attempt, and the core is reseeded there.
 fn reach_second<R: Wait>(
     rt: &R,
     caller: &TableCaller,

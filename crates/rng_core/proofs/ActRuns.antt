@@ -178,8 +178,8 @@ own_after {set} l m n same onward idle k = record {
 
 -- The meaning of each act's outcome (`ActOutcome`)
 
--- if the act of the request `a` ran, its outcome `z` has the act's meaning in all lists that continue those that the
--- view `w` knows; else `z` has no steps
+-- if the act of the request `a` ran, its outcome `z` has the act's meaning in all lists that continue the lists that
+-- the view `w` knows; else `z` has no steps
 pub record Meant (set : Setting) (w : View) (a : Ask) (z : ActOutcome) : Type 0 where
   pub done : z.done ≡ true → (lanes : ℕ) (visits : ℕ → List Visit) (callers : StateLists) → Continues lanes w visits →
       ActMeans (setting_of set) a.act (done_line (effects_of (book_lists lanes visits callers) z.steps) z.answer z.bytes)
@@ -241,7 +241,8 @@ module _ (set : Setting) (point : Point) where
 abbrev pub came : List PointReached → Ask → Bool
 came points a = list_any (λ reached. is_same_point reached.point a.point) points
 
--- after a call that reached `points`, an act is done if and only if it was done before or the call reached its point
+-- after a call that reached `points`, an act is done if and only if it was done before or the call reached the act's
+-- point
 abbrev pub AllDone : List PointReached → List Ask → List ActOutcome → List ActOutcome → Type 0
 AllDone points [] [] [] = ⊤
 AllDone points [] [] (z ∷ zs) = ⊥

@@ -61,8 +61,8 @@ step_onward s t (at_point point wiped) k = ran_onward s.core.set point s.asks (i
 
 -- The points of a vgetrandom call's first attempt, and those of its later attempts
 
--- of the points that a call still reaches, `active` gives those of the first attempt, and `resting` those after the
--- first attempt. Both depend on the current attempt
+-- `active` gives the points that a call still reaches in its first attempt, and `resting` gives the points that it
+-- still reaches after the first attempt. Both depend on the current attempt
 abbrev pub active : Attempt → List PointReached → List PointReached
 active Before points = first_points points
 active First points = before_start points
@@ -185,8 +185,8 @@ acted_wipes (at_point point wiped ∷ steps) asks attempt s t same now does =
     (k.wipes ∙ (λ i. is_first (next i) && wipes_at (same i) point))
     (acted_wipes steps asks (attempt_at attempt point) does.0 t (k.asks ∙ same) next does.2)
 
--- if `Ran` holds for `point`, and `AllDone` for the points `points` after it, then `AllDone` holds for all of them;
--- `point` counts only if `b` is true
+-- if `Ran` holds for `point`, and `AllDone` for the points `points` after it, then `AllDone` holds for `point` and
+-- `points` together; `point` counts only if `b` is true
 ran_done : (set : Setting) (point : Point) (wiped b : Bool) (asks : List Ask) (v w : View) (points : List PointReached)
     (xs ys zs : List ActOutcome) → Ran set point asks b v w xs ys → AllDone points asks ys zs →
     AllDone (if b then record { point = point; wiped = wiped } ∷ points else points) asks xs zs
@@ -248,7 +248,8 @@ acted_done (at_point point wiped ∷ steps) asks attempt s t same now long does 
     (ran_long s.core.set point (is_first (attempt_at attempt point)) asks _ _ s.outcomes does.0.outcomes long ran)
     does.2))
 
--- if `Ran` holds from the view `v` to `w`, and the outcomes `xs` have their acts' meanings, so do the outcomes `ys`
+-- if `Ran` holds from the view `v` to `w`, and the outcomes `xs` have their acts' meanings, the outcomes `ys` have them
+-- too
 ran_meant : (set : Setting) (point : Point) (b : Bool) (asks : List Ask) (v w : View) (xs ys : List ActOutcome) →
     Ran set point asks b v w xs ys → AllMeant set v asks xs → AllMeant set w asks ys
 ran_meant set point true asks v w xs ys k all = meant_at set point asks v w xs ys k all

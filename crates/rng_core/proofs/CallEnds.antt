@@ -1,5 +1,5 @@
--- If the old state's generation and each published one are at most `top`, so is the state's generation after a
--- vgetrandom call. Only a call for no bytes ends as `no_bytes`.
+-- If the old state's generation and each published generation are at most `top`, the state's generation after a
+-- vgetrandom call is at most `top` too. Only a call for no bytes ends as `no_bytes`.
 use Rattle.std.proofs.Common.{◌≡◌, ℕ, ◌≤◌, Bool, true, false, List, [], ◌∷◌, ◌++◌, refl, sym, ap, ◌∙◌, subst, arith}
 use Rattle.std.specs.Prelude.{MatchBool, ◌==◌, ⊤}
 use Rattle.std.proofs.lemmas.Bool.{eqb-true}

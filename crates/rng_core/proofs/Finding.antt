@@ -1,5 +1,5 @@
--- The effect of a visit that a pass made is the one that the pass's own model of the lane (its value in the proofs)
--- gives. This holds in all lists that continue those that the pass knows.
+-- A visit that a pass made has the effect that the pass's own model of the lane (the lane's value in the proofs) gives.
+-- This holds in all lists that continue the lists that the pass knows.
 use Rattle.std.proofs.Common.{◌≡◌, ℕ, ◌+◌, List, ◌++◌, take, Some, refl, ap, ◌∙◌, subst, arith}
 use Rattle.std.specs.Prelude.{slice_get}
 use Rattle.std.proofs.lemmas.List.{take-append-le}

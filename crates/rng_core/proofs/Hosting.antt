@@ -84,8 +84,8 @@ visit_of [] = None
 visit_of (made_step ∷ []) = place_in made_step
 visit_of (made_step ∷ next ∷ made_steps) = visit_of (next ∷ made_steps)
 
--- in all lists that continue those that the view `v` knows, the visit that `visit_of` finds is also the last visit of
--- the steps' effects
+-- in all lists that continue the lists that the view `v` knows, the visit that `visit_of` finds is also the last visit
+-- of the steps' effects
 module _ (lanes : ℕ) (v : View) (visits : ℕ → List Visit) (callers : List (List (List VEntry)))
     (k : Continues lanes v visits) where
   abbrev book : Lists

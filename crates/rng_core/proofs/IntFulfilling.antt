@@ -30,7 +30,7 @@ use Rattle.rng_core.specs.Integers.{IsWidth, int_event}
 use Rattle.rng_core.proofs.Finding.{found_base, found_cpu}
 use Rattle.rng_core.proofs.Makings.{did_map, did_after_look, did_then, did_cpu, serving_looked}
 
--- whether a batch has to be filled at the generation `look` follows from its last fill `f`, whatever its bytes are
+-- a batch's last fill `f` decides whether the batch has to be filled at the generation `look`; its bytes do not matter
 pub wants_of : (look width : ℕ) (f : Option Fill) (bytes : List ℕ) →
     wants look width (batch_of width f bytes) ≡ must_fill look width f
 wants_of look width None bytes = wants-start look width

@@ -1,5 +1,5 @@
--- The effects of calls follow from their visits: two successive calls make the effects of both, and the visits that
--- most calls share have their forms.
+-- The effects of calls follow from their visits: two successive calls have the effects of both, and the visits that
+-- many calls make have the forms that `key_names` defines.
 use Rattle.std.proofs.Common.{◌≡◌, ℕ, ◌+◌, ◌<◌, ◌≤◌, length, arith, List, [], ◌∷◌, ◌++◌, map, Some, None, sym, refl, ap, ◌∙◌, subst, append-nil}
 use Rattle.std.proofs.lemmas.List.{map-append}
 use Rattle.key_names.specs.declared.entries.Taken.{Taken}
@@ -152,7 +152,7 @@ did_rooted set l m n root base s got entry bytes x y = record {
       };
 }
 
--- a read from a CPU after its look has the form PlainRead
+-- a look, and then a read from a CPU, have the form PlainRead
 pub did_plain_read : (set : Setting) (l m n : Moment) (g place : ℕ) (taken : Taken) (bytes : List ℕ) →
     TraceRecords set l m (went.looked g ∷ []) → Served set m n (set.cpu + 2) place (Cpu (Read g None taken)) bytes
     → Makes (Serving (PlainRead (setting_of set) taken) bytes) set l n
@@ -258,8 +258,8 @@ did_bits set m n place b s got x is = record {
   };
 }
 
--- the effects are those of two successive calls. P holds for the effects of the first call, and Q for those of the
--- second
+-- the effects are the effects of two successive calls: P holds for the effects of the first call, and Q for the effects
+-- of the second
 pub record After (P Q : List Effect → Type 0) (effects : List Effect) : Type 0 where
   pub first : List Effect
   pub rest : List Effect

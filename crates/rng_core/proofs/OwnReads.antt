@@ -23,7 +23,7 @@ use Rattle.rng_core.proofs.OwnStates.{own_states_are_lawful}
 use Rattle.rng_core.proofs.Readings.{stayed}
 
 -- during one read, with the effect `k`, the number of lanes stays the same, and the lists that the pass knows grow. The
--- places of the read's visits are added to those in the view
+-- places of the read's visits are added to the places in the view
 module _ {n flags : ℕ} {s t : VgetrandomState} {answer : Answer} {shown : Shown} {set : Setting} {l m : Moment}
     (k : VreadMakes n flags s t answer shown set l m) where
   lanes : k.looked.lanes ≡ l.view.lanes
@@ -48,8 +48,8 @@ one_of_all : (f : View → ℕ) (views : List View) (j : ℕ) (v : View) (s : St
 one_of_all f views j v s are is none = let e = sum_at_set f s.views j v nobody is in
     let same = ap (sum_by f) are in omega arith
 
--- a second read, with the effect `k₂`, begins with the state and the view that the first one, with the effect `k₁`,
--- left
+-- a first read has the effect `k₁`, and a second read has the effect `k₂`. The second begins with the state and the
+-- view that the first left
 module _ {n₁ n₂ f₁ f₂ : ℕ} {t₁ t₂ : VgetrandomState} {a₁ a₂ : Answer} {h₁ h₂ : Shown} {set₁ set₂ : Setting}
     {l₁ m₁ l₂ m₂ : Moment} (k₁ : VreadMakes n₁ f₁ wiped_state t₁ a₁ h₁ set₁ l₁ m₁)
     (k₂ : VreadMakes n₂ f₂ t₁ t₂ a₂ h₂ set₂ l₂ m₂) (goes_on : l₂.view ≡ m₁.view) (share : 0 < m₂.view.share) where

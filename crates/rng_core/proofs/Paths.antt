@@ -31,7 +31,7 @@ use Rattle.rng_core.specs.Traces.{TraceRecords, knowing}
 abbrev pub either : Bool → Mark → List Mark → List Mark
 either here m ms = cond here (m ∷ ms) ms
 
--- those of the marks that are of lane `lane`
+-- the marks that are of lane `lane`
 abbrev pub lane_of : ℕ → List MarkBy → List Mark
 lane_of lane [] = []
 lane_of lane (by ∷ marks) = cond (nat_eq (index_of by.mark.lane) lane) (by.mark ∷ lane_of lane marks) (lane_of lane marks)

@@ -41,7 +41,7 @@ looks_below : (effects : List Effect) → {E : Type 0} (d : E → Effect) → ((
 looks_below effects d same None = refl
 looks_below effects d same (Some e) = same e
 
--- an effect of a visit adds no look to those of the other effects
+-- the effect of a visit adds no look to the looks of the other effects
 visit_looks : (lists : Lists) (l : LaneId) (place : ℕ) (effects : List Effect) →
     looks_of (effect_at lists l place ∷ effects) ≡ looks_of effects
 visit_looks lists PoolLane place effects = looks_below effects (λ e. at_pool (pool_visit lists place e)) (λ e. refl) _

@@ -27,7 +27,7 @@ reseeded_at xs i root now x there is = ap (λ (k : Model). k.base.generation)
     (fold_next model_step start_model xs i x (conforms_at xs i x there)
     ∙ ap (λ (e : LaneEntry). made_of (replay (take i xs)) e x.got) is)
 
--- a caller that made a reseed has seen a generation above the one before the reseed
+-- a caller that made a reseed has seen a generation above the base's generation before the reseed
 reseed_seen : (set : Setting) (m n : Moment) (place root now : ℕ) (s : Model) (got : Handed) →
     Visited set m n 1 place s (Base (Reseed root now)) got → s.base.generation < floor n.view
 reseed_seen set m n place root now s got v =
@@ -39,7 +39,8 @@ reseed_seen set m n place root now s got v =
     let a = seen.2 in
     let b = seen.3 in omega arith
 
--- after the base was taken, a root extracted and the reseed's visit made, the caller has seen a higher generation
+-- after a caller took the base, extracted a root and made the reseed's visit, the caller has seen a higher generation
+-- than before
 pub reseed_rises : (l m k n : Site) (base : Held) (root : ExtractedRoot) (place r now : ℕ) (got : Handed) → Entered 1 base l m →
     ExtractedRaising base root m k → Visited k.set (at k) (at n) 1 place (lane_of k 1) (Base (Reseed r now)) got →
     seen_by l < seen_by n

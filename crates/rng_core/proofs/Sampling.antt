@@ -1,5 +1,5 @@
--- The samples of an interrupt: its CPU visits find the fast pool that the caller knows, and a dump and its mix satisfy
--- `DumpConforms`.
+-- The samples of an interrupt. The interrupt's CPU visits find the fast pool that the caller knows. A dump, and the
+-- visit of the pool that mixes it, satisfy `DumpConforms`.
 use Rattle.std.proofs.Common.{◌≡◌, ℕ, ◌+◌, ◌<◌, ◌≤◌, inl, inr, false, List, [], ◌∷◌, ◌++◌, length, refl, sym, ap, ◌∙◌, subst, arith}
 use Rattle.std.specs.Prelude.{IsTrue}
 use Rattle.std.specs.List.{AllByRecursion}

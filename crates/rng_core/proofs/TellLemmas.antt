@@ -1,5 +1,5 @@
--- The trace of a call records the steps of its parts in order. It records no step if nothing happened, and each visit
--- that was made.
+-- The trace of a call records the steps of its parts in order. It records each visit that was made, and no step if
+-- nothing happened.
 use Rattle.std.proofs.Common.{◌≡◌, ℕ, List, [], ◌∷◌, ◌++◌, map, take, length, ◌+◌, ◌<◌, ◌≤◌, ◌^◌, max, sym, refl, ap, ◌∙◌, subst, arith, append_assoc, append-nil, length-append}
 use Rattle.std.proofs.lemmas.List.{map-append}
 use Rattle.std.proofs.Math.Seq.{take-append_seam}

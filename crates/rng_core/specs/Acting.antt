@@ -1,5 +1,5 @@
--- A caller as the host of a vgetrandom call with acts inside: the caller's own steps over the lanes at each step of the
--- host.
+-- A caller as the host of a vgetrandom call with acts inside. The caller itself makes each step of the host, over the
+-- lanes.
 use Rattle.std.specs.Prelude.{◌≡◌, ℕ, ◌&&◌, Bool, true, false, MatchBool, List, if◌then◌else◌}
 use Rattle.key_names.specs.declared.point.Point.{Point}
 use Rattle.key_names.specs.declared.point.Point.TheVariants.{Start}

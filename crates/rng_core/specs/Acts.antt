@@ -81,7 +81,7 @@ done_line effects answer bytes =
 abbrev pub at_event : ℕ → Setting → Setting
 at_event event set = record set { event = event }
 
--- from the view `v` to `w` the act of the request `ask` ran, with the outcome `y`
+-- the act of the request `ask` ran, with the outcome `y`; the pass had the view `v` before, and `w` after
 pub record ActRan (set : Setting) (ask : Ask) (v w : View) (y : ActOutcome) : Type 0 where
   pub done : y.done ≡ true
   pub did : Makes (λ effects. ActMeans (setting_of set) ask.act (done_line effects y.answer y.bytes))
@@ -93,7 +93,7 @@ abbrev pub ActAt : Setting → Point → Ask → View → View → ActOutcome �
 ActAt set point ask v w x y = MatchBool (is_same_point point ask.point && not x.done) (ActRan set ask v w y)
     ((y ≡ x) × (w ≡ v))
 
--- each act of a list in order: it runs if it is bound to the point and has not run yet
+-- the acts of a list, in order: each one runs if it is bound to the point and has not run yet
 abbrev pub ActsAt : Setting → Point → List Ask → View → View → List ActOutcome → List ActOutcome → Type 0
 ActsAt set point [] v w [] [] = w ≡ v
 ActsAt set point [] v w [] (y ∷ ys) = ⊥

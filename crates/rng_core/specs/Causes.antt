@@ -8,8 +8,8 @@ use Rattle.key_names.specs.Kernel.Flags.{is_bad, is_nonblock, is_insecure}
 use Rattle.rng_core.specs.Sites.{seen_by}
 use Rattle.rng_core.specs.declared.site.Site.{Site}
 
--- the caller had never seen the core ready; its first step is a look that found the core not ready, and the steps
--- `rest` follow
+-- the caller had never seen the core ready; the call's first step is a look that found the core not ready, and the
+-- steps `rest` follow
 pub record FoundUnready (rest : List Step) (m n : Site) : Type 0 where
   pub unseen : seen_by m ≡ 0
   pub steps : n.trace.now ≡ m.trace.now ++ Look 0 ∷ rest
@@ -28,7 +28,7 @@ ReadCause (Err Again) flags m n = NeedsReady true flags × FoundUnready [] m n
 ReadCause (Err Interrupted) flags m n = NeedsReady false flags × (rest : List Step) × FoundUnready rest m n
 ReadCause (Err NoData) flags m n = ⊥
 
--- the first step is a look that found the core ready
+-- the call's first step is a look that found the core ready
 pub record FoundReady (m n : Site) : Type 0 where
   pub look : ℕ
   pub rest : List Step

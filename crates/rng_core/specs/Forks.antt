@@ -17,8 +17,8 @@ use Rattle.rng_core.specs.Makes.{Makes}
 use Rattle.rng_core.specs.declared.site.Site.{Site}
 use Rattle.rng_core.specs.Sites.{Same, Does, HasInHands, at}
 
--- from `m` on the pass made the visit of a fork, after which the trace had the steps `recorded`; then the pass was
--- split into `pass` and `child`
+-- after the moment `m` the pass made the visit of a fork, and the trace then had the steps `recorded`. After that, the
+-- pass was split into `pass` and `child`
 pub record Forked (set : Setting) (m : Moment) (recorded : List Step) (number : ℕ) (pass child : Pass) : Type 0 where
   pub before : View
   pub did : Makes (BaseOnly (Fork number)) set m (knowing before recorded)

@@ -1,4 +1,4 @@
--- A caller as the host of its own vgetrandom calls: the caller's own steps over the lanes at each step of the host.
+-- A caller as the host of its own vgetrandom calls. The caller itself makes each step of the host, over the lanes.
 use Rattle.std.specs.Prelude.{◌≡◌, ℕ, ◌<◌, ◌≤◌, ⊤, Bool, true, false, IsTrue, List, [], ◌∷◌, length}
 use Rattle.std.proofs.Props.{props}
 use Rattle.std.specs.Coded.{Coded-set}
@@ -27,7 +27,7 @@ is_away Away = true
 is_away (Queued ticket) = false
 is_away (Holding ticket) = false
 
--- `p` is a pass of the table `t` and of the caller `caller`, and neither holds a lane nor waits for one
+-- `p` is a pass of the table `t` and of the caller `caller`; it holds no lane, and waits for no lane
 pub record IsFree (t : Lanes) (caller : ℕ) (p : Pass) : Type 0 where
   pub pass : IsPassOf t p
   pub own : p.caller ≡ caller
@@ -56,12 +56,12 @@ pub record Published (s : Conform) (g : ℕ) (t : Conform) : Type 0 where
   pub known : found ≤ floor t.moment.view
   pub recorded : recorded.TraceRecords s.set s.moment t.moment (looked found ∷ [])
 
--- `effects` are those of a system call for `n` bytes with the flags `flags`, and `answer` is the call's answer
+-- a system call for `n` bytes with the flags `flags` has these effects, and `answer` is the call's answer
 pub record SystemCall (set : CallSetting) (n flags : ℕ) (answer : SystemAnswer) (effects : List Effect) : Type 0 where
   pub form : SysForm set n flags effects
   pub answers : answer ≡ answer_after flags effects
 
--- the answer is that of a system call that read bytes
+-- the system call with this answer read its bytes
 abbrev pub IsRead : SystemAnswer → Type 0
 IsRead (read bytes visit) = ⊤
 IsRead (failed errno) = ⊥

@@ -29,7 +29,7 @@ pub record IsWaitingAct (b : Bound) : Type 0 where
   pub idle : b.done ≡ false
   pub empty : b.trace ≡ []
 
--- the line of an act; if the act did not run, its answer is `unused`
+-- the line of an act; if the act did not run, the line's answer is `unused`
 abbrev pub act_line : Setting → Ask → ActOutcome → SeenLine
 act_line set a z = record {
   caller = set.caller;

@@ -59,7 +59,7 @@ pub record Served (set : Setting) (m n : Moment) (lane place : ℕ) (e : LaneEnt
   pub visited : Visited set m n lane place model e got
   pub serves : bytes ≡ serving e model got
 
--- the effects are those of an event, with the answer and the data of its line
+-- `effects` match a form of `event`; `answer` and `shown` are the answer and the data that the event's line then has
 pub record IsOutcomeOf (set : CallSetting) (event : Event) (answer : Answer) (shown : Shown) (effects : List Effect) : Type
     0 where
   pub form : Form set event effects

@@ -25,8 +25,8 @@ use Rattle.rng_core.specs.Acts.{Ask, ActOutcome}
 use Rattle.rng_core.specs.VreadMakes.{VreadMakes, LocallyServed}
 use Rattle.rng_core.specs.InsideMakes.{InsideMakes}
 
--- a use of a state: a read by `vread`, `vread_inside` or `vread_local`, with the effect that the function's contract
--- gives, or a wipe
+-- a use of a state: a wipe, or a read by `vread`, `vread_inside` or `vread_local` with the effect that the function's
+-- contract gives
 pub data OwnUse : Type 0 where
   by_vread : (n flags : ℕ) (s t : VgetrandomState) (answer : Answer) (shown : Shown) (set : Setting) (l m : Moment) →
       VreadMakes n flags s t answer shown set l m → OwnUse
@@ -57,7 +57,7 @@ entries_of (by_vread_inside n flags s t answer shown set l m asks outcomes k) = 
 entries_of (by_vread_local n flags s t out set l m k) = copy_entries s 0 n
 entries_of (by_wipe s) = Wipe ∷ []
 
--- the looks and visits of a use, without those of its acts
+-- the looks and visits of a use, except those that its acts made
 abbrev pub steps_of : OwnUse → List MadeStep
 steps_of (by_vread n flags s t answer shown set l m k) = k.did.made_steps
 steps_of (by_vread_inside n flags s t answer shown set l m asks outcomes k) = k.made_steps
@@ -79,7 +79,7 @@ UseIsKnown s (by_vread_inside n flags b t answer shown set l m asks outcomes k) 
 UseIsKnown s (by_vread_local n flags b t out set l m k) = IsKnown s m.view
 UseIsKnown s (by_wipe b) = ⊤
 
--- each use begins with the state that the one before it left
+-- each use begins with the state that the use before it left
 abbrev pub Follow : VgetrandomState → List OwnUse → Type 0
 Follow s [] = ⊤
 Follow s (u ∷ us) = (before_use u ≡ s) × Follow (after_use u) us
@@ -93,7 +93,7 @@ abbrev pub entries_left : List OwnUse → List VEntry
 entries_left [] = []
 entries_left (u ∷ us) = entries_of u ++ entries_left us
 
--- how often place `p` of CPU `c` is among the visits of a use, or of all uses
+-- how many visits of a use are at place `p` of the list of CPU `c`. `all_visits_at` counts the visits of all uses there
 abbrev pub visits_at : ℕ → ℕ → OwnUse → ℕ
 visits_at c p u = times p (places_in (c + 2) (steps_of u))
 
@@ -101,8 +101,8 @@ abbrev pub all_visits_at : ℕ → ℕ → List (List OwnUse) → ℕ
 all_visits_at c p states = sum_by (λ uses. sum_by (visits_at c p) uses) states
 
 -- `states` lists the uses of each own state up to a moment of the table. Each state is wiped before its first use, and
--- is between two calls. Some pass knows what the caller of each use knew. The visits of the uses are among those that
--- the passes made
+-- is between two calls. For each use, some pass knows what the use's caller knew. The visits of the uses are among the
+-- visits that the passes made
 pub record OwnStates (s : St) (states : List (List OwnUse)) : Type 0 where
   pub follow : AllByRecursion (Follow wiped_state) states
   pub known : AllByRecursion (AllByRecursion (UseIsKnown s)) states
@@ -114,8 +114,8 @@ pub record OwnStates (s : St) (states : List (List OwnUse)) : Type 0 where
 abbrev pub own_lists : St → (ℕ → List Visit) → List (List OwnUse) → Lists
 own_lists s logs states = book_lists (length s.homes) logs (map (λ uses. entries_left uses ∷ []) states)
 
--- the book is lawful except for visits that are half finished, so no two states took the same read as a key; no byte
--- of a key was used twice; no live state holds a replaced key; and each state is the replay of its own list
+-- the book is lawful except for visits that are half finished, so no two states took the same read as a key. No byte of
+-- a key was used twice. No live state holds a replaced key. Each state is the replay of its own list
 pub record OwnBook (lists : Lists) (states : List (List OwnUse)) : Type 0 where
   pub lawful : HalfFinishedBook lists
   pub disjoint : IsDisjoint lists

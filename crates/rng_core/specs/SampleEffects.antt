@@ -20,8 +20,8 @@ pub record Sampled (F : List Effect → Type 0) (visits : ℕ → List Visit) (e
   pub holds : F effects
   pub samples : SamplesConform (fast_in visits) effects
 
--- the effects begin with a dump of the setting's CPU, at `place` or later, and the visit of the pool that mixes the
--- dump
+-- the effects begin with two visits: a dump of the setting's CPU, at `place` or later, and the visit of the pool that
+-- mixes the dump. The rest handles the threshold, if any, that the dump's credit crossed
 pub record DumpConforms (set : Setting) (place : ℕ) (visits : ℕ → List Visit) (effects : List Effect) : Type 0 where
   pub dump : CpuVisit
   pub mix : PoolVisit

@@ -21,8 +21,8 @@ abbrev pub Waited : {T : Type 0} → Result T Errno → Site → Site → Type 0
 Waited (Ok x) m n = (1 ≤ seen_by n) × Does 1 (Serving (BaseOnly Resume) []) m n
 Waited (Err e) m n = (e ≡ Interrupted) × Does 1 (Serving (BaseOnly Interrupt) []) m n
 
--- if the flags are good, the first step is a look. The call makes at most 4 steps and those of a wait; a caller that
--- waited once does not wait again
+-- if the flags are good, the first step is a look. The call makes at most 4 steps, plus the steps of a wait. A caller
+-- that waited once does not wait again
 pub record BeginsAndWaits (flags : ℕ) (m n : Site) : Type 0 where
   pub begins : is_bad flags ≡ false → BeginsWithLook m.trace.now n.trace.now
   pub room : length n.trace.now + waiting_at n ≤ length m.trace.now + 4 + waiting_at m

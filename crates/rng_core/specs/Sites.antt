@@ -69,7 +69,7 @@ HasInHands hands s = HoldsLanes s.lanes.now s.set.caller hands s.pass.now
 abbrev pub most_steps : ℕ
 most_steps = 20
 
--- how many visits the caller knows of the CPU that it runs on
+-- how many visits the caller knows in the list of the CPU that it runs on
 abbrev pub own_places : Site → ℕ
 own_places s = length (known_of (view s.pass.now) (own_lane s))
 
@@ -89,7 +89,7 @@ pub record IsIdle (steps : ℕ) (s : Site) : Type 0 where
 abbrev pub IsOnCpu : Site → Type 0
 IsOnCpu s = s.set.cpu < s.lanes.now.cpus
 
--- the time of the setting is below 2^40 ms, so the timers can have it
+-- the time of the setting is below 2^40 ms, so the timers can hold it
 abbrev pub IsTimely : Site → Type 0
 IsTimely s = s.set.now < 2 ^ 40
 
@@ -97,15 +97,16 @@ IsTimely s = s.set.now < 2 ^ 40
 abbrev pub HasRoom : ℕ → Site → Type 0
 HasRoom steps s = length s.trace.now + steps ≤ 20
 
--- the caller holds only `lane`, whose value in `h` is unchanged. It owes an answer to the parent lane's entry at place
--- `owes` (if any), and raised the generation `raised` times in this hold
+-- the caller holds only `lane`, whose value in `h` is unchanged. The caller owes an answer to the parent lane's entry
+-- at place `owes` (if any), and raised the generation `raised` times in this hold
 pub record HoldsWith (owes : Option ℕ) (raised lane : ℕ) (h : Held) (s : Site) : Type 0 where
   pub has : HasInHands (hand h.turn owes raised ∷ []) s
   pub lane_is : h.turn.lane ≡ lane
   pub value : ValueRepresents lane h.state (lane_of s lane)
   pub early : s.pass.now.stamp ≤ last_stamp
 
--- the caller holds only `lane`, whose value in `h` is unchanged. It owes no answer, and did not raise the generation
+-- the caller holds only `lane`, whose value in `h` is unchanged. The caller owes no answer, and did not raise the
+-- generation
 abbrev pub Holds : ℕ → Held → Site → Type 0
 Holds lane h s = HoldsWith None 0 lane h s
 
@@ -145,7 +146,7 @@ pub record CanVisit (lane : ℕ) (h : Held) (e : LaneEntry) (s : Site) : Type 0 
   pub room : HasRoom 1 s
   pub early : s.pass.now.stamp ≤ last_stamp
 
--- the value in `h` is the one that `lane` has after the entry `e`
+-- the value in `h` is the value of `lane` after the entry `e`
 abbrev pub IsMade : ℕ → Held → LaneEntry → Site → Type 0
 IsMade lane h e s = ValueRepresents lane h.state (made_of (lane_of s lane) e (handed lane e (view s.pass.now)))
 

@@ -30,15 +30,15 @@ knowing v steps = record { view = v; steps = steps }
 abbrev pub moment : Pass → List Step → Moment
 moment pass steps = knowing (view pass) steps
 
--- from `m` to `n` the pass made exactly the steps `made_steps`, the trace lists them, and a transcript can have each
--- (`StepFits`)
+-- from `m` to `n` the pass made exactly the steps `made_steps`, the trace lists them, and each step fits into a
+-- transcript (`StepFits`)
 pub record TraceRecords (set : Setting) (m n : Moment) (made_steps : List MadeStep) : Type 0 where
   pub trace : n.steps ≡ m.steps ++ map step_of made_steps
   pub went : Advances set.caller set.event (length m.steps) m.view n.view made_steps
   pub fits : AllByRecursion StepFits (map step_of made_steps)
 
--- the view knows the visit at the mark: its entry `e`, the key `got` that it received, and the lane's model `s` (its
--- value in the proofs) before it
+-- the visit at the mark, as the view `v` knows it: its entry is `e`, it received the key `got`, and the lane's model
+-- (its value in the proofs) before the visit was `s`
 pub record Met (v : View) (mark : Mark) (s : Model) (e : LaneEntry) (got : Handed) : Type 0 where
   pub near : index_of mark.lane < length v.lanes
   pub visit : Visit
@@ -47,8 +47,8 @@ pub record Met (v : View) (mark : Mark) (s : Model) (e : LaneEntry) (got : Hande
   pub was_handed : visit.got ≡ got
   pub before : replay (take mark.place (known_of v (index_of mark.lane))) ≡ s
 
--- one visit was made, of `lane` at `place`, with the entry `e`; it received the key `got`, and the lane's model before
--- it was `s`
+-- one visit of `lane` was made, at `place` and with the entry `e`. It received the key `got`, and the lane's model
+-- before the visit was `s`
 pub record Visited (set : Setting) (m n : Moment) (lane place : ℕ) (s : Model) (e : LaneEntry) (got : Handed)
     : Type 0 where
   pub mark : Mark

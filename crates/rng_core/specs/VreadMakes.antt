@@ -92,8 +92,8 @@ vread_meaning effects answer shown entries before t = record {
   after = with_state before t;
 }
 
--- for each caller with the given setting and the current state `s`, the given effects are those of a read that changes
--- the state to `t`
+-- for each caller that has the given setting and the current state `s`, the given effects are the effects of a read
+-- that changes the state to `t`
 abbrev pub VreadLine : CallSetting → ℕ → ℕ → VgetrandomState → VgetrandomState → Answer → Shown → List VEntry →
     List Effect →
     Type 0
@@ -113,7 +113,7 @@ pub record VreadMakes (n flags : ℕ) (s t : VgetrandomState) (answer : Answer) 
 
 -- Reads at a site (a call's table, pass, trace and setting)
 
--- the vgetrandom state's generation is at most the last one that the caller has seen published
+-- the vgetrandom state's generation is at most the last published generation that the caller has seen
 abbrev pub IsCurrent : VgetrandomState → Site → Type 0
 IsCurrent st s = st.generation ≤ published_by (seen_by s)
 

@@ -1,4 +1,4 @@
-//! The effects of calls on a CPU's value. Each effect is the one that the call's entry defines.
+//! The effects of calls on a CPU's value, as the calls' entries define them.
 ghost use Rattle.std.specs.Prelude.{◌≡◌, ◌≢◌, ℕ, ◌<◌, ◌≤◌, ◌+◌, ◌^◌, Bool, true, None, Some, length};
 ghost use Rattle.key_names.specs.declared.entries.CpuEntry.TheVariants.{Read, Int, Irq, Dump as DumpEntry, Prepare, Online};
 ghost use Rattle.key_names.specs.Kernel.Batches.{must_fill};
@@ -47,7 +47,7 @@ pub(crate) fn serve(state: &mut LaneState, look: u64, out: &mut [u8])
     with_cpu!(state, lane => batches::serve(lane, look, out))
 }
 
-/// Refills the CPU with the key from the base. With that key it fills the batch of this width, and serves the batch's
+/// Refills the CPU with the key from the base. That key then fills the batch of this width, and the batch serves its
 /// first integer.
 pub(crate) fn serve_refilled(
     state: &mut LaneState,

@@ -2,7 +2,7 @@
 //!
 //! Before the core is ready, a read draws its key from the base; after that, from the CPU that its caller runs on. If
 //! the CPU's key is not of the core's generation, the CPU first takes a key from the base. Each key is erased in the
-//! visit that uses it. A reseed gives the base a root of the pool, and raises the generation.
+//! visit that uses it. A reseed extracts a key for the base (a root) from the pool, and raises the generation.
 //!
 //! The calls of this section, with the kernel function that each follows:
 //!

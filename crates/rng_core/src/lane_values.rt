@@ -1,4 +1,4 @@
-//! The effects of calls on a lane's value. Each effect is the one that the call's entry defines.
+//! The effects of calls on a lane's value, as the calls' entries define them.
 ghost use Rattle.std.specs.Prelude.{◌≡◌, ◌≢◌, ◌↔◌, ℕ, ◌<◌, ◌≤◌, ◌+◌, ◌^◌, ◌++◌, None, Some, List, length, IsTrue};
 ghost use Rattle.std.specs.Int.{w64, to_le_bytes};
 ghost use Rattle.key_names.specs.declared.entries.PoolEntry.{PoolEntry};

@@ -25,21 +25,21 @@
 //! # Proved
 //!
 //! - [`getrandom`], [`kernel_read`], [`mix`] and the other calls: for every interleaving of the callers, the steps that
-//!   the call adds to its trace are exactly its looks and visits. These steps are a form of the call's event, with the
-//!   call's answer and bytes. The call ends with no lane held. The trace leaves out only one look: the one by which
-//!   [`vread_local`], alone or in [`vread`], finds that the batch cannot serve.
+//!   the call adds to its trace are exactly its looks and visits. These steps match one of the forms of the call's
+//!   event, with the call's answer and bytes. The call ends with no lane held. The trace leaves out only one look: the
+//!   one by which [`vread_local`], alone or in [`vread`], finds that the batch cannot serve.
 //! - [`getrandom`] and [`random_file`]: each error has its cause. `EAGAIN` and `EINTR` need a first look that found the
 //!   core not ready.
 //! - [`reseed`]: after success the caller has seen a higher generation than before.
-//! - [`laws::own_states_are_lawful`]: between any two atomic steps the table's lists, and those of vgetrandom states
-//!   that are between two calls, make a lawful book, except for visits that are half finished. In this book no byte of
-//!   a key was used twice.
+//! - [`laws::own_states_are_lawful`]: take the table's lists between any two atomic steps, and the lists of vgetrandom
+//!   states that are between two calls. Together they make a lawful book, except for visits that are half finished. In
+//!   this book no byte of a key was used twice.
 //! - Not promised: that a wait ends. A call may wait for a lane, and a blocking read may wait for readiness.
 //!
 //! # Tested only
 //!
-//! A read holds no lane while it makes the bytes after the first 32: `rng_core_tests` of `test_core`. Without a clause
-//! or a test: a fill of a batch of integers makes its 96 bytes while the CPU is held.
+//! A read holds no lane while it makes the bytes after the first 32: `rng_core_tests` of `test_core`. A fill of a batch
+//! of integers makes its 96 bytes while the CPU is held; neither a clause nor a test covers this.
 //!
 //! # Differs from the kernel
 //!

@@ -1,5 +1,5 @@
-//! Macros that use a lane's value as that of the pool, the base or a CPU. The contract of the function that uses the
-//! macro ensures that the value is of this kind.
+//! Macros that take a lane's value as the value of the pool, of the base or of a CPU. A function that uses a macro
+//! ensures by its contract that the value is of this kind.
 
 /// Runs an expression with the value of the pool's lane.
 macro_rules! with_pool {

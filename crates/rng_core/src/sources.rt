@@ -1,7 +1,7 @@
 //! The collection of samples (the "entropy collection routines" of random.c).
 //!
-//! Input from devices, users and interrupts is mixed into the input pool, and credited by the rules of the event. A
-//! credit that crosses a threshold seeds the base at once, in the same call.
+//! Input from devices, users and interrupts is mixed into the input pool, and credited by the rules for its kind of
+//! event. A credit that crosses a threshold seeds the base at once, in the same call.
 //!
 //! Callers may add samples by:
 //!

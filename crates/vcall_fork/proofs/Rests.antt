@@ -23,7 +23,7 @@ use Rattle.vdso_state.specs.declared.place.Turn.TheVariants.{First, Second}
 use Rattle.vdso_state.specs.Places.{FromPoint, IfOutdated, AfterPlace}
 use Rattle.key_names.specs.Kernel.Vgetrandom.{state_after_call}
 
--- an attempt's entries use the read at place `p` of CPU `c` as a key, at most as often as the attempt's steps contain
+-- an attempt's entries use the read at place `p` of CPU `c` as a key at most as often as the attempt's steps contain
 -- that read
 module _ (c p : ℕ) where
   point_bounded : (point : Point) (n from published : ℕ) (out : List ℕ) (s : VgetrandomState) (steps : List HostStep)

@@ -72,8 +72,8 @@ module _ (turn : Turn) (point : Point) where
       Some begun
   quiet begun xs none = ap (passes_by turn point begun) none
 
-  -- if the steps `xs` do not reach the wanted point, the point `p` after them is another one, and `ys` has no point,
-  -- then `xs`, `p` and `ys` together do not reach the wanted point
+  -- suppose that the steps `xs` do not reach the wanted point, that the point `p` after them is another one, and that
+  -- `ys` has no point. Then `xs`, `p` and `ys` together do not reach the wanted point
   point_on : (begun : ℕ) (t : Turn) (p : Point) (wiped : Bool) (xs ys : List HostStep) →
       passes_by turn point begun (points_of xs) ≡ Some (turns_before t p) →
       is_wanted turn point (turn_number t) p ≡ false → points_of ys ≡ [] →

@@ -1,5 +1,5 @@
--- A vgetrandom call during which the process forked, at a point: the rest of the parent's call, and of the child's
--- call.
+-- A vgetrandom call during which the process forks at a point. The parent runs the rest of its call, and the child runs
+-- the rest of its own copy of the call.
 use Rattle.std.specs.Prelude.{ℕ, ◌≡◌, ◌≢◌, ◌≤◌, ◌==◌, ◌&&◌, ◌||◌, Bool, true, false, List, [], ◌∷◌, ◌++◌, if◌then◌else◌}
 use Rattle.key_names.specs.declared.entries.VEntry.{VEntry}
 use Rattle.key_names.specs.declared.entries.VEntry.TheVariants.{Wipe}
@@ -17,8 +17,8 @@ use Rattle.vcall_fork.specs.declared.stage.Stage.{Stage}
 use Rattle.vcall_fork.specs.Stops.{RestOfCall}
 
 -- a call at this stage, with this state and this buffer, reached `place` by the steps `before`, which left `entries`.
--- Whatever steps and entries follow from `place` on, the rest of the call has `before` and then those steps, and
--- `entries` and then those entries
+-- Whatever the rest of the call from `place` on is, its steps after `before`, with its entries after `entries`, are the
+-- rest of the call from this stage on
 abbrev pub LeadsTo : Stage → List ℕ → VgetrandomState → ℕ → ℕ → Place → List ℕ → VgetrandomState → List HostStep →
     List VEntry → Type 0
 LeadsTo stage held s n flags place out t before entries = (rest : List HostStep) (outcome : Outcome) →
@@ -42,7 +42,8 @@ ForksAreRecorded = (stage : Stage) (held : List ℕ) (s : VgetrandomState) (n fl
     LeadsTo stage held s n flags place out t before entries →
     ForkIsRecorded stage held s n flags place out t before entries
 
--- whether a key was read in the last attempt of the given steps; `taken` is whether a key was read before these steps
+-- whether the last attempt in the given steps read a key; `taken` is whether the attempt that these steps continue had
+-- read one before
 abbrev pub takes_key : Bool → List HostStep → Bool
 takes_key taken [] = taken
 takes_key taken (publishes g ∷ steps) = takes_key taken steps
@@ -57,8 +58,8 @@ ChildTakesKey = (n flags : ℕ) (place : Place) (out : List ℕ) (steps : List H
     (high : ℕ) (bytes : List ℕ) → AfterPlace n flags place out wiped_state steps outcome → 1 ≤ place.published →
     Climbs place.published high steps → outcome.ending ≡ by_batch bytes → takes_key false steps ≡ true
 
--- in a lawful book the vgetrandom states of two callers never use the same byte of a key's keystream, so no byte comes
--- out of both the parent's state and the child's
+-- in a lawful book the vgetrandom states of two callers never use the same byte of a key's keystream. So no byte of a
+-- keystream comes out of both the parent's state and the child's state
 abbrev pub ForksShareNothing : Type 0
 ForksShareNothing = (lists : Lists) → LawfulBook lists →
     (parent child : ℕ) (parents_state childs_state parents_place childs_place : ℕ) → parent ≢ child →

@@ -27,7 +27,7 @@ RestOfCall New n flags out s steps outcome = IsCall n flags s steps outcome
 RestOfCall (ConformsAt place) n flags out s steps outcome = AfterPlace n flags place out s steps outcome
 RestOfCall Over n flags out s steps outcome = ⊥
 
--- the number of the attempt to which a point belongs, if `begun` attempts began before the point; a point Start begins
+-- if `begun` attempts began before a point, the number of the attempt to which the point belongs; a point Start begins
 -- an attempt
 abbrev pub turn_at : ℕ → Point → ℕ
 turn_at begun point = if is_same_point point Start then suc begun else begun
@@ -48,9 +48,9 @@ pub record Misses (turn : Turn) (point : Point) (begun : ℕ) (steps : List Host
   pub passes : passes_by turn point begun (points_of steps) ≡ Some following
 
 module _ {H : Type 0} (host : Doings H) (floor : H → ℕ) where
-  -- the call, which last found `look` published, is stopped at `point` of the attempt `turn`, before the host's step at
-  -- that point. `place` records the generation that the call found last: the last look of the steps, or else `look`. A
-  -- host with `looks` looks and `calls` system calls left can serve the rest of the call
+  -- the call is stopped at `point` of the attempt `turn`, before the host's step at that point. `place` records the
+  -- generation that the call found last: by the last look of the host's steps up to this stop, or `look` if these steps
+  -- have no look. A host with `looks` looks and `calls` system calls left can serve the rest of the call
   pub record Stopped (From : List HostStep → Outcome → Type 0) (n flags : ℕ) (turn : Turn) (point : Point)
       (begun look : ℕ) (stage : Stage) (looks calls : ℕ) (h next : H) (s : VgetrandomState)
       (buf : List ℕ) : Type 0 where

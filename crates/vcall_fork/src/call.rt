@@ -29,7 +29,7 @@ pub struct VCall {
     ghost ready: { 1 ≤ published_or 1 stage },
 }
 
-// Whether the call has to stop at `place`: it is `point` of `attempt`.
+// Whether the call has to stop at `place`: whether `place` is `point` of `attempt`.
 fn is_at(place: Place, attempt: Turn, point: Point) -> bool
     ensures { result ≡ is_wanted attempt point (turn_number place.turn) place.point }
 {
@@ -113,9 +113,9 @@ impl VCall {
     /// point: the host's `at` is not called for it.
     ///
     /// The call must not be over, and the buffer must have the call's length. The host must publish no generation below
-    /// the one that the call read last. The host must have enough looks and system calls left for the rest of the call:
-    /// 5 looks and 3 system calls for a new call, and no more for a stopped call. If the call stops at the point, the
-    /// host has enough looks and system calls left to end the call.
+    /// the generation that the call read last. The host must have enough looks and system calls left for the rest of
+    /// the call: 5 looks and 3 system calls for a new call, and no more for a stopped call. If the call stops at the
+    /// point, the host has enough looks and system calls left to end the call.
     pub fn run_to<H: VHost>(
         &mut self,
         host: &mut H,

@@ -3,8 +3,8 @@
 //! A process can fork during one of its calls, in a signal handler. Then the call ends twice, once in the parent and
 //! once in the child. The child has its own copy of the buffer, and its state is empty, since the kernel maps states so
 //! that a fork wipes them (`VM_WIPEONFORK`). [`VCall`] is such a call: it runs to a point, is forked there, and ends in
-//! the parent and in the child, over any host of `vdso_state`. The parts of a call, each from one point to the next,
-//! are those of `vdso_state`.
+//! the parent and in the child, over any host of `vdso_state`. `vdso_state` also defines the parts of a call, each from
+//! one point to the next.
 //!
 //! # Example
 //!
@@ -28,8 +28,8 @@
 //!
 //! # Proved
 //!
-//! - [`VCall::run_to`] and [`VCall::finish`]: the call stops at the point, or runs to its end. The steps of both are
-//!   those of one call, as `key_names` defines a call.
+//! - [`VCall::run_to`] and [`VCall::finish`]: the call stops at the point, or runs to its end. The steps of these
+//!   functions together are the steps of one call, as `key_names` defines a call.
 //! - [`VCall::fork_call`] leaves the parent's call unchanged, and gives the child a wiped state and a copy of the
 //!   buffer.
 //! - [`laws::forks_are_recorded`]: the child's call is a call whose state was wiped at the point of the fork.

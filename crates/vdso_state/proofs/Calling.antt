@@ -34,8 +34,8 @@ module _ {H : Type 0} (host : Doings H) (floor : H → ℕ) (n flags look : ℕ)
   bad_flags s h last finish bad ends =
       said_asked (IsCall n flags s) s h last finish (λ steps outcome r. match_true _ _ _ bad r) ends
 
-  -- if the flags are good, the first look finds `published`, and the rest of the call after this look leads to `came`,
-  -- the whole call leads to `came`
+  -- suppose that the flags are good, that the first look finds `published`, and that the rest of the call after this
+  -- look leads to `came`. Then the whole call leads to `came`
   pub looked_then : (published : ℕ) (s : VgetrandomState) (h next last : H) (came : Came) (t : VgetrandomState)
       (buf : List ℕ) → is_bad flags ≡ false → host.publishes_as h published next → floor h ≤ published →
       published ≤ floor next →

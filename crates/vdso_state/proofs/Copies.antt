@@ -14,8 +14,8 @@ refilled s block = record s {
   pos = 0;
 }
 
--- if `refilled_state` is `s` after a refill from `block`, and `t` is that state after `r` bytes of its batch were
--- served, `t` is `state_of_new_batch s block r`
+-- let `refilled_state` be the state `s` after a refill from `block`, and `t` the state after `r` bytes of the new batch
+-- were served. Then `t` is `state_of_new_batch s block r`
 pub state_at : (s refilled_state t : VgetrandomState) (block r m : ℕ) → refilled_state ≡ refilled s block → m ≡ r →
     t ≡ state_of_same_batch refilled_state m → t ≡ state_of_new_batch s block r
 state_at s u t block r m new same is = let sum : 0 + r ≡ r = omega arith in rw (is, new, same, sum) refl

@@ -45,8 +45,8 @@ key_not_read (failed why) errno buf s answers = (answers, (buf, refl))
 no_error : (errno : Errno) → (let done : Result (Unit {0}) Errno = Ok tt in done ≡ Err errno) → ⊥
 no_error errno same = cc
 
--- an attempt that copied `out`, left the state `s` and the next block `c`, and ended while the published generation was
--- not that of `s`
+-- an attempt that copied `out`, left the state `s` and the next block `c`, and ended when the published generation was
+-- not the generation of `s`
 abbrev outdated_attempt : List ℕ → ℕ → VgetrandomState → Attempt
 outdated_attempt out c s = record { out = out; state = s; next_block = c; entries = []; end = outdated }
 

@@ -7,13 +7,13 @@ use Rattle.key_names.specs.Kernel.VgetrandomState.{VgetrandomState}
 use Rattle.key_names.specs.Kernel.Vgetrandom.{SystemAnswer, read, failed, HostStep, Ending, no_bytes, by_batch, by_system, Outcome}
 use Rattle.vdso_state.specs.Host.{Doings, DoesAll}
 
--- `result` and `buf` are those of a vgetrandom call that ended with this answer of the system call; after an error the
--- buffer is unspecified
+-- a vgetrandom call that ends with this answer of the system call returns `result`, and leaves `buf` in the buffer;
+-- after an error the buffer is unspecified
 abbrev pub EndsAsAnswered : SystemAnswer → Result VEnd Errno → List ℕ → Type 0
 EndsAsAnswered (read bytes visit) result buf = (result ≡ Ok System) × (buf ≡ bytes)
 EndsAsAnswered (failed errno) result buf = result ≡ Err errno
 
--- `result` and `buf` are those of a vgetrandom call with this ending
+-- a vgetrandom call with this ending returns `result`; if it gave bytes, they are in `buf`
 abbrev pub EndsAs : Ending → Result VEnd Errno → List ℕ → Type 0
 EndsAs no_bytes result buf = result ≡ Ok Zero
 EndsAs (by_batch bytes) result buf = (result ≡ Ok Batch) × (buf ≡ bytes)

@@ -24,7 +24,7 @@ abbrev pub DoesAll : {H : Type 0} → Doings H → H → List HostStep → H →
 DoesAll host h [] last = h ≡ last
 DoesAll {H} host h (step ∷ steps) last = (next : H) × Does host h step next × DoesAll host next steps last
 
--- the result of a system call, and the buffer after the call, are those of this answer; after an error the buffer is
+-- a system call with this answer returns `result`, and leaves `buf` in the buffer; after an error the buffer is
 -- unspecified
 abbrev pub IsAnswer : SystemAnswer → Result (Unit {0}) Errno → List ℕ → Type 0
 IsAnswer (read bytes visit) result buf = (result ≡ Ok tt) × (buf ≡ bytes)
@@ -35,8 +35,8 @@ abbrev pub doings : {H : Type 0} → (H → ℕ → H → Type 0) → (H → ℕ
 doings publishes_as answers_as passes_as =
     record { publishes_as = publishes_as; answers_as = answers_as; passes_as = passes_as }
 
--- `after` is the state `before` after the system call for a new key. If the system call failed, the key of `after` may
--- be any list of bytes
+-- the system call for a new key had this answer and this result, and changed the state from `before` to `after`. If the
+-- system call failed, the key of `after` may be any list of bytes
 abbrev pub KeyIsRead : SystemAnswer → Result (Unit {0}) Errno → VgetrandomState → VgetrandomState → Type 0
 KeyIsRead (read key visit) result before after = (result ≡ Ok tt) × (after ≡ record before { key = key; pos = 96 })
 KeyIsRead (failed errno) result before after =

@@ -23,8 +23,8 @@ FromPoint Written n c published out s steps attempt = FromWritten n c s steps at
 FromPoint Serve n c published out s steps attempt = FromServe n c s steps attempt
 FromPoint End n c published out s steps attempt = FromEnd out c s steps attempt
 
--- the steps after an attempt that ended outdated: after the first attempt those of the second one, and after the second
--- attempt those of the system call
+-- the steps after an attempt that ended outdated: the second attempt follows the first, and the system call follows the
+-- second
 abbrev pub IfOutdated : Turn → ℕ → ℕ → ℕ → VgetrandomState → List HostStep → Outcome → Type 0
 IfOutdated First n flags c s steps outcome = SecondAttempt n flags c s steps outcome
 IfOutdated Second n flags c s steps outcome = AfterBoth n flags c s steps outcome
@@ -92,7 +92,8 @@ pub record MayGoOn (at : Place) (looks calls floor : ℕ) : Type 0 where
   pub known : at.published ≤ floor
   pub near : at.next_block ≤ copies_by at.turn at.point * (2 ^ 14 + 2)
 
--- the host can serve the rest of the call after the place `at`, and `turns` attempts have their point Start before it
+-- the host can serve the rest of the call after the place `at`, and `turns` is the number of attempts whose point Start
+-- comes before `at`
 pub record GoesOn (at : Place) (turns looks calls floor : ℕ) : Type 0 where
   pub may : MayGoOn at looks calls floor
   pub turns_are : turns_before at.turn at.point ≡ turns

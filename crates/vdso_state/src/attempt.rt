@@ -57,8 +57,8 @@ fn give_up<H: VHost>(
     ask_system(host, st, buf, flags)
 }
 
-/// After `Start`: if the state's generation is not the published one, it becomes the published one, and a key for it
-/// has to be read.
+/// After `Start`: goes on to `Serve` if the state's generation is the published one. If not, records the published one
+/// in the state, and goes on to `Written`, after which a key for it is read.
 fn after_start(st: &mut VState, place: Place) -> Place
     ensures current { st.old.generation ≡ place.published →
         (st.new ≡ st.old) × (result ≡ record place { point = Serve }) }
@@ -139,7 +139,7 @@ fn after_serve(st: &mut VState, place: Place, buf: &mut [u8]) -> Place
 }
 
 /// After `End`: the bytes may be given out if the state still has the generation that is published now. If the state
-/// was wiped or the core was reseeded, the second attempt begins, or the system call has to serve.
+/// was wiped or the core was reseeded, the second attempt follows the first, and the system call follows the second.
 fn after_end<H: VHost>(
     host: &mut H,
     st: &mut VState,
@@ -175,9 +175,9 @@ fn after_end<H: VHost>(
 
 /// Continues a call from the point that it has reached, to its next point or to its end.
 ///
-/// `place` must come from `begin` or from this function, and the buffer has at most 2^20 bytes. The host publishes no
-/// generation below `place.published`. The host still has 3 looks in the first attempt, or 1 in the second. It also has
-/// the system calls that may follow, at most 3.
+/// `place` must come from `begin` or from this function, and the buffer must have at most 2^20 bytes. The host must
+/// publish no generation below `place.published`. It must still have 3 looks in the first attempt, or 1 in the second,
+/// and also the system calls that may follow, at most 3.
 ///
 /// # Errors
 ///

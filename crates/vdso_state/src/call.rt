@@ -80,10 +80,10 @@ pub fn finish<H: VHost>(
 /// not of the published generation, the state takes a new key first. The state may be wiped at the host's points: no
 /// byte of a wiped state is given out.
 ///
-/// The system call serves the bytes if the flags are bad, nothing is published yet, the state is in use, no key can be
-/// read, or both attempts were outdated. The state is in use, for example, if this call is made inside another call on
-/// the state, unless a wipe cleared the mark. If the flags are good and something is published, a call for no bytes
-/// returns `Zero`.
+/// The system call serves the bytes in each of these cases: the flags are bad, nothing is published yet, the state is
+/// in use, no key can be read, or both attempts were outdated. The state is in use, for example, if this call is made
+/// inside another call on the state, unless a wipe cleared the mark. If the flags are good and something is published,
+/// a call for no bytes returns `Zero`.
 ///
 /// The host must have 5 looks and 3 system calls, and the buffer must have at most 2^20 bytes.
 ///

@@ -28,7 +28,7 @@ pub trait VHost {
 
     ghost calls_left: { Self → ℕ };
 
-    /// A bound: from now on the host publishes no generation below it.
+    /// The least generation that the host may publish from now on.
     ghost floor: { Self → ℕ };
 
     /// The generation that the core publishes now: no lower than any before it, or 0 before the core is ready.

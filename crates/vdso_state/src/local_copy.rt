@@ -6,8 +6,8 @@ ghost use Rattle.vdso_state.specs.Local.{CopiesLocally};
 use crate::outcome::Local;
 use crate::state::VState;
 
-/// Copies bytes of the batch over all of `buf` if the state's key is that of the published generation `g`, the state is
-/// not in use, and the batch has enough bytes left. Otherwise, or if `g` is 0, nothing changes.
+/// Copies bytes of the batch over all of `buf` if three conditions hold: the state's key is of the published generation
+/// `g`, the state is not in use, and the batch has enough bytes left. Otherwise, or if `g` is 0, nothing changes.
 pub fn local(g: u64, st: &mut VState, buf: &mut [u8]) -> Local
     ensures { CopiesLocally g (length buf.old) st.old st.new result buf.old buf.new }
 {

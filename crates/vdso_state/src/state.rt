@@ -17,7 +17,8 @@ const KEY_BYTES: usize = 32;
 const BLOCK_BYTES: usize = 64;
 
 /// The bytes that [`VState::pass`] skipped: the first `taken` bytes of `front`, which were in the batch, and then the
-/// stream of `key` from the block that the call of `pass` was given. `next_block` is the next block after the call.
+/// stream of `key`, from the block that was given to `pass` as `next_block`. The field `next_block` is the next block
+/// after the call.
 #[derive(Drop)]
 pub struct Passed {
     pub front: [u8; 96],
@@ -167,9 +168,9 @@ impl VState {
         self.pos = 0;
     }
 
-    /// Copies bytes of the key's stream from the block `next_block` on over all of `out`: whole blocks as they are, and
-    /// the rest from a new batch. The batch and the next key are the two blocks after the whole ones, so the old key is
-    /// gone. Returns the number of the block after these two.
+    /// Fills all of `out` with the key's stream, from the block `next_block` on: whole blocks as they are, and the rest
+    /// from a new batch. The batch and the next key are the two blocks after the whole ones, so the old key is gone.
+    /// Returns the number of the block after these two.
     fn copy_from_key(&mut self, next_block: u64, out: &mut [u8]) -> u64
         requires near { next_block ≤ 2 ^ 20 }
         requires short { length out.old ≤ 2 ^ 20 }
@@ -201,8 +202,9 @@ impl VState {
         following + 2
     }
 
-    /// Copies bytes over all of `out`, and takes those left in the batch first. The key's next block is `next_block`;
-    /// the result is the next block after the copy. `next_block` and the length of `out` are at most 2^20.
+    /// Copies bytes over all of `out`: first the bytes left in the batch, and then bytes of the key's stream. The key's
+    /// next block is `next_block`; the result is the next block after the copy. `next_block` and the length of `out`
+    /// are at most 2^20.
     pub fn copy(&mut self, next_block: u64, out: &mut [u8]) -> u64
         requires near { next_block ≤ 2 ^ 20 }
         requires short { length out.old ≤ 2 ^ 20 }

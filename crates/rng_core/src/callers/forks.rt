@@ -18,8 +18,8 @@ fn tell<R: Wait>(rt: &R, site: &mut Site, child: u32)
     site.visit_base(base, BaseEntry::Fork { child });
 }
 
-/// Makes the caller `child`, which counts as running from now on. Returns the child's pass, which has the knowledge of
-/// this pass and half of its share.
+/// Makes the caller `child`, which counts as running from now on. Returns the child's pass, which has this pass's
+/// knowledge and half of this pass's share.
 pub fn fork<R: Wait>(rt: &R, site: &mut Site, child: u32) -> Pass
     requires idle { IsIdle 1 site.old }
     ensures { SplitsOff child result site.old site.new }

@@ -1,4 +1,4 @@
-//! Keys from the parent of a held lane: a root of the pool for the base, and a key of the base for a CPU.
+//! Keys that a held lane gets from its parent: the base gets a root of the pool, and a CPU gets a key of the base.
 ghost use Rattle.std.specs.Prelude.{◌≤◌};
 
 use crate::lane_values;
@@ -7,14 +7,14 @@ use key_names::{BaseEntry, LaneId, PoolNote};
 use lane_table::Held;
 use std::sync::Wait;
 
-/// A root, and the place of its extraction in the pool's list.
+/// A root, and the place in the pool's list of the visit that extracted the root.
 #[derive(Clone, Copy)]
 pub(crate) struct ExtractedRoot {
     pub(crate) key: [u8; 32],
     pub(crate) place: u64,
 }
 
-/// A key that the base hands over to a CPU, and the place of the refill in the base's list.
+/// A key that the base hands over to a CPU, and the place in the base's list of the visit that handed it over.
 #[derive(Clone, Copy)]
 pub(crate) struct KeyHandoff {
     pub(crate) key: [u8; 32],

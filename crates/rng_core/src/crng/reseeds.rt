@@ -38,8 +38,8 @@ pub(crate) fn reseed_base<R: Wait>(rt: &R, site: &mut Site)
     site.visit_base(base, entry);
 }
 
-/// Reseeds the core on request (`random_ioctl` of `RNDRESEEDCRNG`). Then the generation is above each one that the
-/// caller had seen.
+/// Reseeds the core on request (`random_ioctl` of `RNDRESEEDCRNG`). After success the caller has seen a higher
+/// generation than any that it had seen before.
 ///
 /// # Errors
 ///

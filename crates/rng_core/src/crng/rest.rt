@@ -1,4 +1,4 @@
-//! A read in two parts: at most 32 bytes are made while a lane is held, and the rest after that, without a lane.
+//! A read in two parts: it makes at most 32 bytes while it holds a lane, and the rest after it released the lane.
 ghost use Rattle.std.specs.Prelude.{◌≡◌, ◌≤◌, ℕ, Some, None};
 ghost use Rattle.key_names.specs.declared.entries.BaseEntry.TheVariants.{Draw};
 ghost use Rattle.key_names.specs.declared.entries.CpuEntry.TheVariants.{Read};

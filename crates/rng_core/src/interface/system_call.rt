@@ -86,9 +86,9 @@ fn must_wait(found: u64, flags: u32) -> bool
 ///
 /// # Errors
 ///
-/// `Invalid` if the flags are bad. If the core is not ready and `GRND_INSECURE` is not set: `Again` with
-/// `GRND_NONBLOCK`, and `Interrupted` if no caller runs that could make it ready. After an error the buffer is
-/// unspecified.
+/// `Invalid` if the flags are bad. If the core is not ready and `GRND_INSECURE` is not set, a read with `GRND_NONBLOCK`
+/// fails with `Again`. Without `GRND_NONBLOCK` it fails with `Interrupted` if no caller runs that could make the core
+/// ready. After an error the buffer is unspecified.
 pub fn getrandom<R: Wait>(rt: &R, site: &mut Site, buf: &mut [u8], flags: u32) -> Result<(), Errno>
     requires idle { IsIdle (4 + waiting_at site.old) site.old }
     requires cpu { IsOnCpu site.old }
@@ -135,8 +135,8 @@ fn file_flags(nonblock: bool) -> u32
 ///
 /// # Errors
 ///
-/// If the core is not ready: `Again` with `nonblock`, and `Interrupted` if no caller runs that could make it ready.
-/// After an error the buffer is unspecified.
+/// If the core is not ready: `Again` with `nonblock`; without it `Interrupted`, if no caller runs that could make the
+/// core ready. After an error the buffer is unspecified.
 pub fn random_file<R: Wait>(
     rt: &R,
     site: &mut Site,

@@ -39,7 +39,7 @@ fn dump<R: Wait>(rt: &R, site: &mut Site)
 
 /// Handles an interrupt (`add_interrupt_randomness`): takes its sample, and makes a dump if and only if the sample
 /// makes one due.
-// Inlined by the hint: without it a run of interrupts is 2 to 5 % slower.
+// Without this hint a run of interrupts is 2 to 5 % slower.
 #[inline(always)]
 pub fn irq<R: Wait>(rt: &R, site: &mut Site, v1: u64, v2: u64)
     requires idle { IsIdle 5 site.old }

@@ -46,7 +46,7 @@ pub fn add<R: Wait>(rt: &R, site: &mut Site, text: &[u8], bits: u32)
 }
 
 /// Handles an event of an input device (`add_input_randomness`). An event with the same value as the last one changes
-/// nothing. Any other event is mixed into the pool, and credited by the timer while the pool is not full.
+/// nothing. Any other event is mixed into the pool. If the pool is not full, it gets credit for the event's timing.
 pub fn input<R: Wait>(rt: &R, site: &mut Site, word: u64, kind: u16, code: u16, value: u8)
     requires idle { IsIdle 3 site.old }
     requires moment { IsTimely site.old }

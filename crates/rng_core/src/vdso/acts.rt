@@ -137,8 +137,8 @@ fn is_wiped_by(bound: &Bound, point: Point) -> bool
     bound.point.is(point) && is_wipe(bound.act)
 }
 
-/// Runs the acts of a list that are bound to a point and not yet done, in order. Returns whether an act of the point
-/// wipes the state; an act that was done before counts too.
+/// Runs, in order, the acts of a list that are bound to a point and not yet done. Returns whether an act bound to the
+/// point wipes the state, even if that act was done before.
 pub(crate) fn run_acts<R: Wait>(
     rt: &R,
     site: &mut Site,

@@ -17,8 +17,8 @@ use vdso_state::{VHost, VState};
 impl<'a, R> LaneHost<'a, R> {
     /// The host of one call, or of the rest of a call. It can make 5 looks and 3 system calls.
     ///
-    /// The site's trace and each act's trace must be empty, and no act may be done. `out` must have exactly the
-    /// length of all the acts' reads together. Each such read is of at most 2^20 bytes.
+    /// The site's trace and each act's trace must be empty, and no act may be done. `out` must have exactly the length
+    /// of all the acts' reads together. Each act reads at most 2^20 bytes.
     pub fn over(
         rt: &'a R,
         site: Site<'a>,

@@ -12,9 +12,9 @@ use crate::vdso::attempt::Attempt;
 /// A caller as the host of a vgetrandom call. The caller's looks and system calls go into the trace of its site.
 /// Acts run at their points, each with its own trace.
 ///
-/// An act runs if the call's first attempt reaches its point; acts of one point run in the order of the list. A read
-/// that is an act is `getrandom` without flags. Its bytes are in `out` after those of the reads before it in the
-/// list. A wipe makes the state all zero.
+/// An act runs if the call's first attempt reaches the act's point; acts of one point run in the order of the list. A
+/// read that is an act is `getrandom` without flags. In `out`, the read's bytes follow the bytes of the reads before it
+/// in the list. A wipe makes the state all zero.
 #[derive(Drop)]
 pub struct LaneHost<'a, R> {
     pub(crate) rt: &'a R,

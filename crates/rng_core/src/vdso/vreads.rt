@@ -15,10 +15,10 @@ use key_names::{Errno, Step};
 use std::sync::Wait;
 use vdso_state::{Local, VEnd, VState, local, vgetrandom};
 
-/// Copies bytes of the batch over all of `buf` if the state's key is of the published generation, no call is using the
-/// state, and the batch has enough bytes left. Otherwise the state and `buf` stay as they were. With no bytes to read
-/// or with bad flags the call does not even look. It never waits. A look that leads to no copy is not recorded in the
-/// trace.
+/// Copies bytes of the batch over all of `buf` if three conditions hold: the state's key is of the published
+/// generation, no call is using the state, and the batch has enough bytes left. Otherwise the state and `buf` stay as
+/// they were. If there are no bytes to read or the flags are bad, the call does not even look at the generation. It
+/// never waits. A look that leads to no copy is not recorded in the trace.
 pub fn vread_local(site: &mut Site, st: &mut VState, buf: &mut [u8], flags: u32) -> Local
     requires { IsIdle 1 site.old }
     ensures reads { ReadsLocally result (length buf.old) flags st.old st.new buf.new site.old site.new }
@@ -67,7 +67,7 @@ pub(crate) fn call_host<R: Wait>(
 
 /// Reads random bytes for a user (`vgetrandom`), at most 2^20: out of the caller's vgetrandom state if the state can
 /// serve them, and else by the system call. The host must be new and without acts. The state's generation must not be
-/// above the last one that the caller has seen published.
+/// above the last published generation that the caller has seen.
 ///
 /// # Errors
 ///
@@ -95,7 +95,8 @@ pub fn vread<R: Wait>(
 /// Reads random bytes for a user as [`vread`](vread) does, but runs at least one of the host's acts inside. So the
 /// read is a call of `vgetrandom` from the start, and tries no copy before it.
 ///
-/// The host must be new. The state's generation must not be above the last one that the caller has seen published.
+/// The host must be new. The state's generation must not be above the last published generation that the caller has
+/// seen.
 ///
 /// # Errors
 ///
