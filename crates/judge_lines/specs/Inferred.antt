@@ -105,13 +105,14 @@ telling set (Vmfork word text) = vmforks (device_entry word text)
 telling set (Irq v1 v2) = samples v1 v2
 telling set _ = silent
 
--- if the step before is a visit of the pool, it is an extraction, and the root is named by its place; otherwise None
+-- the root that a visit takes: if the step before the visit is a visit of the pool, that step is an extraction, and its
+-- place names the root; otherwise None
 abbrev pub root_before : Sign → Option ℕ
 root_before (in_pool p) = Some p
 root_before _ = None
 
--- the place of a visit of the pool, the generation of a look, and the place of a visit of the base; each is 0 for
--- another step
+-- `pool_place_in` is the place of a visit of the pool, `look_in` the generation that a look found, and `base_place_in`
+-- the place of a visit of the base; each is 0 for any other step
 abbrev pub pool_place_in : Sign → ℕ
 pool_place_in (in_pool p) = p
 pool_place_in _ = 0
@@ -146,7 +147,7 @@ pool_inferred (vmforks e) neighbours = own_or_extracted neighbours.following nei
 pool_inferred (samples v1 v2) neighbours = dumped_or_extracted neighbours.following neighbours.before
 pool_inferred _ neighbours = extracted (base_place_in neighbours.following)
 
--- the entry that the event of a line makes itself in the pool
+-- the pool's entry that a line's event makes itself
 abbrev pub own_entry : Telling → PoolEntry
 own_entry (mixes e) = e
 own_entry (credits e) = e
@@ -175,13 +176,13 @@ read_inferred set taken neighbours = by neighbours.following
     by (in_base i) = base_is Wait
     by _ = drawn_or_woken taken neighbours.before
 
--- if the two steps before a visit of the base are a credit and an extraction, its entry has the extracted root;
--- otherwise it has no root
+-- if the two steps before a visit of the base are a credit and an extraction, the visit's entry has the extracted root;
+-- otherwise the entry is an early key without a root
 abbrev pub crossed_inferred : Setting → Sign → Sign → BaseInferred
 crossed_inferred set (in_pool p) before = crossed (pool_place_in before) set.now p
 crossed_inferred set _ before = base_is (Early None)
 
--- of a fork's visits of the base the first is the fork, the second a stall, and the third the end of the stall
+-- a fork's first visit of the base is the fork, its second visit a stall, and its third the end of the stall
 abbrev pub forked_inferred : ℕ → Sign → Sign → BaseInferred
 forked_inferred child second_before nowhere = base_is (Forked child)
 forked_inferred child nowhere before = base_is Stall
@@ -217,7 +218,8 @@ abbrev pub int_inferred : ℕ → ℕ → Sign → Sign → CpuInferred
 int_inferred width zero second_before before = cpu_read_inferred (Kernel width) second_before before
 int_inferred width (suc g) second_before before = cpu_int_inferred width second_before before
 
--- of an interrupt's visits of its CPU, the line's first step is the sample, and the second visit is the dump
+-- an interrupt visits its CPU at most twice: the first visit, which is the line's first step, is the sample; the second
+-- is the dump
 abbrev pub sample_inferred : Setting → ℕ → ℕ → Sign → CpuInferred
 sample_inferred set v1 v2 nowhere = cpu_is (IrqSample v1 v2 set.now)
 sample_inferred set v1 v2 before = cpu_is (Dump set.now)

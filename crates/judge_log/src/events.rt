@@ -16,7 +16,7 @@ use judge_vread::served::Served;
 use key_names::{Answer, BaseEntry, CpuEntry, Event, InsideAct, Step, Taken, flags};
 use std::alloc::AllocError;
 
-// The crossing of the first visit of the pool, if there is one.
+// The threshold that the line's first visit of the pool crossed, if any.
 fn first_crossing(met: &[KeptStep]) -> Crossing
     ensures { result ≡ first_crossing met.now }
 {
@@ -78,7 +78,7 @@ fn visit_served(met: &KeptStep) -> Served
     }
 }
 
-// The bytes of a read, which are those of its last visit.
+// The bytes of a read: those that its last visit serves.
 fn last_served(met: &[KeptStep]) -> Served
     ensures { result ≡ last_recipe met.now }
 {

@@ -3,13 +3,13 @@
 //! states.
 //!
 //! [`gather::gather`] makes a row for each mark: the entry of the visit, inferred from the steps around it and from its
-//! caller's setting (`judge_lines`). An inferred entry leaves four things open: what a credit crossed, whether a
-//! waiting caller went on, whether an integer filled its batch, and what a dump mixed. [`replay_lists`] completes the
-//! entries in the order CPUs' fast pools, pool, base, CPUs. It replays each list with the parts that the core also
-//! uses, such as the input pool. For each visit it keeps the data from which the answer and bytes of the visit's line
-//! are made. [`calls::caller_said`] goes through the calls of one caller, with its sixteen vgetrandom states, and makes
-//! the answer of each line and a recipe for the bytes. The argument `how` ([`said::Note`]) determines what is noted of
-//! both.
+//! caller's setting (`judge_lines`). An inferred entry leaves four things open: which threshold a credit crossed,
+//! whether a waiting caller went on, whether an integer filled its batch, and what a dump mixed. [`replay_lists`]
+//! completes the entries in this order: the CPUs' fast pools, the pool, the base, the CPUs. It replays each list with
+//! the parts that the core also uses, such as the input pool. For each visit it keeps the data from which the answer
+//! and bytes of the visit's line are made. [`calls::caller_said`] goes through the calls of one caller, with its
+//! sixteen vgetrandom states, and makes the answer of each line and a recipe for the bytes. The argument `how`
+//! ([`said::Note`]) determines what is noted of an answer and its recipe.
 //!
 //! # Example
 //!

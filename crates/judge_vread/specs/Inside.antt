@@ -29,7 +29,8 @@ points_in All = Start ∷ Written ∷ Serve ∷ End ∷ []
 abbrev pub includes : Reached → Point → Bool
 includes reached point = list_any (λ p. is_same_point p point) (points_in reached)
 
--- the points that an attempt reached; the bool is true if it read a key, and only then is Written one of them
+-- the points that an attempt reached. The bool is true if the attempt read a key; only then did the attempt reach
+-- Written
 abbrev pub reached_by : Bool → Reached
 reached_by true = All
 reached_by false = AllButWritten
