@@ -1,5 +1,5 @@
--- The completed lists are lawful exactly if each lane was found lawful and, by the kept data, entries that name each
--- other do so mutually.
+-- The completed lists are lawful exactly if each lane was found lawful, and if the kept data show that each extraction
+-- and each refill is named back by the entry that it names.
 use Rattle.std.proofs.Common.{◌≡◌, ℕ, zero, suc, List, [], ◌∷◌, length, map, Option, Some, None, refl, sym, subst, ap, ◌∙◌}
 use Rattle.std.specs.Prelude.{slice_get, option_and_then}
 use Rattle.key_names.specs.Lanes.PoolList.{extraction_at}

@@ -1,5 +1,5 @@
--- One round of each loop that puts rows into tables: it puts the rows of one element, and later rounds those of the
--- elements after it.
+-- Loops that put rows into tables: one round of a loop puts the rows of one element, and the later rounds put the rows
+-- of the elements after it.
 use Rattle.std.proofs.Common.{◌≡◌, ℕ, ◌+◌, ◌<◌, ◌≤◌, List, [], ◌∷◌, ◌++◌, length, drop, get_or, map, min, refl, sym, subst, ◌∙◌, arith, ◌⊎◌, inl, inr}
 use Rattle.std.proofs.Math.Nat.{min-eq_left, min-eq_right}
 use Rattle.std.specs.Global.{Vec}
