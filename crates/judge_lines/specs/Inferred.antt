@@ -80,7 +80,7 @@ pub data Telling : Type 0 where
   ends : Telling
   silent : Telling
 
--- by which rule the entries of an event's line are inferred
+-- the rule by which the entries of an event's line are inferred
 abbrev pub telling : Setting → Event → Telling
 telling set (Write text) = mixes (Mix text 0)
 telling set (Device word text) = mixes (device_entry word text)
@@ -127,8 +127,8 @@ base_place_in _ = 0
 
 -- ---- the inferred entry of a visit of the pool
 
--- the first step of a line, if it is a visit of the pool, has the entry of the line's event; a later visit of the pool
--- is an extraction for the entry of the base at the place of the next step
+-- a visit of the pool that is the line's first step has the entry of the line's event; a later visit of the pool is an
+-- extraction for the base's entry at the place of the next step
 abbrev pub own_or_extracted : Sign → Sign → PoolInferred
 own_or_extracted following nowhere = own
 own_or_extracted following _ = extracted (base_place_in following)
@@ -162,7 +162,7 @@ FillsPool c set t (dumped cpu k) v = v.entry ≡ Mix (dump_bytes (c.fast cpu k))
 
 -- ---- the inferred entry of a visit of the base
 
--- if the step before a visit of the base is a visit of the base too, the visit ended a wait; otherwise it is a draw
+-- a visit of the base right after another visit of the base ended a wait; otherwise the visit is a draw
 abbrev pub drawn_or_woken : Taken → Sign → BaseInferred
 drawn_or_woken taken (in_base i) = woken
 drawn_or_woken taken before = base_is (Draw (root_before before) taken)
@@ -247,8 +247,8 @@ abbrev pub first_sign : List Effect → Sign
 first_sign [] = nowhere
 first_sign (d ∷ ds) = sign_of d
 
--- `F` holds for each step together with the two steps before it and the one after it; `a` and `b` are the signs of the
--- two steps before the first step
+-- `F` holds for each step, with the two steps before it and the step after it; `a` and `b` are the signs of the two
+-- steps before the first step
 abbrev pub AllFill : (Neighbours → Effect → Type 0) → Sign → Sign → List Effect → Type 0
 AllFill F a b [] = ⊤
 AllFill F a b (d ∷ ds) =
@@ -258,8 +258,8 @@ AllFill F a b (d ∷ ds) =
 abbrev pub LineFills : LaneFacts → Setting → Telling → List Effect → Type 0
 LineFills c set t effects = AllFill (Fills c set t (first_sign effects)) nowhere nowhere effects
 
--- in a line of several reads, the line's last step is inferred as a step of a read that takes `taken`, and each earlier
--- step as one of a read that takes `sooner`
+-- what the read at a step takes, in a line of several reads: `taken` at the line's last step, and `sooner` at each
+-- earlier step
 abbrev pub taken_by : Taken → Taken → Sign → Taken
 taken_by sooner taken nowhere = taken
 taken_by sooner taken _ = sooner

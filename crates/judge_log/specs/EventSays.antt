@@ -72,7 +72,7 @@ abbrev pub recipe_or_none : Option KeptStep → Recipe
 recipe_or_none None = no_recipe
 recipe_or_none (Some met) = recipe_met met
 
--- the recipe for the bytes of a read: the bytes that its last visit serves
+-- the recipe for the bytes that a read's last visit serves, which are the read's bytes
 abbrev pub last_recipe : List KeptStep → Recipe
 last_recipe met = recipe_or_none (slice_get met (length met - 1))
 

@@ -78,7 +78,7 @@ fn visit_served(met: &KeptStep) -> Served
     }
 }
 
-// The bytes of a read: those that its last visit serves.
+// The bytes that a read's last visit serves, which are the read's bytes.
 fn last_served(met: &[KeptStep]) -> Served
     ensures { result ≡ last_recipe met.now }
 {

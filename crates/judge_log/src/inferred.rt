@@ -2,7 +2,7 @@
 use judge_lines::inferred::{BaseInferred, CpuInferred};
 use key_names::PoolNote;
 
-/// The entry of the pool that is inferred for a visit.
+/// The pool's entry that is inferred for a visit.
 #[derive(Clone, Copy)]
 pub enum InferredPool<'a> {
     /// An entry that is known in full: one that the event makes from its own fields, or an extraction.
@@ -11,7 +11,7 @@ pub enum InferredPool<'a> {
     Dumped { cpu: u32, place: u64 },
 }
 
-/// The entry of a CPU that is inferred for a visit.
+/// The CPU's entry that is inferred for a visit.
 #[derive(Clone, Copy, Debug, PartialEq, Eq)]
 pub struct InferredCpu {
     pub entry: CpuInferred,

@@ -10,7 +10,8 @@ use Rattle.judge_vread.specs.declared.inside.Inside.{Inside}
 use Rattle.judge_vread.specs.declared.inside.Reached.{Reached}
 use Rattle.judge_vread.specs.declared.inside.Reached.TheVariants.{Nothing, AllButWritten, All}
 
--- what these acts do to the state: whether there are any, and at which points of the first attempt one of them wipes it
+-- what these acts do to the state: whether there are any acts, and at which points of the first attempt an act wipes
+-- the state
 abbrev pub inside_of : List BoundAct → Inside
 inside_of acts = record {
   any = not (length acts == 0);
