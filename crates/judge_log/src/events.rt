@@ -37,7 +37,7 @@ fn taken_served(key: &[u8; 32], taken: Taken) -> Served
     }
 }
 
-// The bytes of an integer; none if its batch of 96 bytes is used up.
+// The bytes of an integer, or no bytes if its batch of 96 bytes is used up.
 fn int_served(key: &[u8; 32], width: u8, count: u32) -> Served
     ensures { result ≡ batch_recipe key.now width count }
 {

@@ -28,7 +28,7 @@
 //!
 //! # Proved
 //!
-//! - [`gather::gather`]: lists match these tables exactly if each line's visits have the entries that are inferred from
+//! - [`gather::gather`]: lists match its tables exactly if each line's visits have the entries that are inferred from
 //!   the line's own steps. The dumps of the tables are lawful exactly if the samples of interrupts are.
 //! - [`replay_lists`]: the data kept about the lists that match, or `None` exactly if no lawful lists match the tables.
 //!   `specs/Fills` defines the lists that match, `specs/Lawful` the lawful ones, and `specs/Kept` the data.

@@ -54,8 +54,8 @@ impl PoolReplay {
         }
     }
 
-    /// Adds an input event. An event that repeats the last value has no effect. Any other event mixes its sample, and
-    /// its moment determines a credit unless the pool is full.
+    /// Adds an input event. An event that repeats the last value has no effect. Any other event mixes its sample. If
+    /// the pool is not full then, the event's moment determines a credit.
     fn input(&mut self, word: u64, kind: u16, code: u16, value: u8, now: u64)
         requires { now < 2 ^ 40 }
         ensures { (s : PoolState) → LaneConforms self.old s

@@ -28,8 +28,7 @@ module _ {T : Type 0} where
   abbrev pub items_of : List (Vec T Global) → List (List T)
   items_of vecs = map (λ (v : Vec T Global). v.items) vecs
 
-  -- if all vectors in `vecs` are without rows and `v`, also without rows, is appended, all vectors are still without
-  -- rows
+  -- if all vectors in `vecs` have no rows, and a vector `v` without rows is appended, all vectors still have no rows
   pub bare_more : (vecs : List (Vec T Global)) (v : Vec T Global) → v.items ≡ [] →
       ((c : ℕ) → list_at (items_of vecs) c ≡ []) → (c : ℕ) → list_at (items_of (vecs ++ v ∷ [])) c ≡ []
   bare_more [] v none bare zero = none
