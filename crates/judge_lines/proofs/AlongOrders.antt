@@ -140,8 +140,8 @@ module _ (after : Option ℕ → Step → Option ℕ) (May : Option ℕ → Step
         orders_long (ancestors_steps callers (length callers)) callers in omega arith) in
         subst (λ (s : List Step). Along after May None s) (sym (order_is_start_and_own callers c low')) (each c low').conforms)
 
-    -- if all steps of all orders are allowed, then each own step of caller c is allowed after the value carried to it
-    -- from c's first value
+    -- if all steps of all orders are allowed, then each own step of caller c is allowed after the value carried to it;
+    -- the value carried to c's first own step is the value with which c begins
     pub own_follow : (c : ℕ) → c < length callers → AllByRecursion (Along after May None) (caller_orders callers) →
         Along after May (fold after None (start_of callers c)) (calls_steps (list_at callers c))
     own_follow c low all =

@@ -15,7 +15,8 @@ pub enum InferredPool<'a> {
 #[derive(Clone, Copy, Debug, PartialEq, Eq)]
 pub struct InferredCpu {
     pub entry: CpuInferred,
-    /// Whether, in an interrupt's line, the next step dumps the CPU's fast pool. This matters only for the sample.
+    /// Whether the visit is in an interrupt's line, and the next step dumps the CPU's fast pool. This matters only for
+    /// the interrupt's sample.
     pub dumps: bool,
 }
 
