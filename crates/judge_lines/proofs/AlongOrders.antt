@@ -68,7 +68,7 @@ module _ (after : Option ℕ → Step → Option ℕ) (May : Option ℕ → Step
           AreAlong after (fold after None (start_of callers c)) (calls_steps (list_at callers c)) values.items
 
     -- caller c begins with the value carried along its ancestors' steps before the forks, and each of these steps is
-    -- allowed
+    -- allowed after the value carried to it
     pub record Begins (c : ℕ) (kept : List (Vec (Option ℕ))) (forks : List Fork) : Type 0 where
       pub value : begin_in kept (front_in c forks) ≡ fold after None (start_of callers c)
       pub conforms : Along after May None (start_of callers c)
@@ -140,8 +140,8 @@ module _ (after : Option ℕ → Step → Option ℕ) (May : Option ℕ → Step
         orders_long (ancestors_steps callers (length callers)) callers in omega arith) in
         subst (λ (s : List Step). Along after May None s) (sym (order_is_start_and_own callers c low')) (each c low').conforms)
 
-    -- if all steps of all orders are allowed, then all own steps of caller c are allowed after the value with which c
-    -- begins
+    -- if all steps of all orders are allowed, then each own step of caller c is allowed after the value carried to it;
+    -- the value carried to c's first own step is the value with which c begins
     pub own_follow : (c : ℕ) → c < length callers → AllByRecursion (Along after May None) (caller_orders callers) →
         Along after May (fold after None (start_of callers c)) (calls_steps (list_at callers c))
     own_follow c low all =

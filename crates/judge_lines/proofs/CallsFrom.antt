@@ -48,7 +48,7 @@ vread_last (x ∷ es) e is (suc k) =
     vread_last es e is k
     ∙ (let n : nat_lt k (length es + 1) ≡ nat_lt (suc k) (suc (length es) + 1) = grind (arith, nat_tests) in n)
 
--- if `e` is not a `vread`, then with `e` appended a tail of the events contains a `vread` exactly if it did before
+-- if `e` is not a `vread`, appending `e` to the events does not change whether a tail of them contains a `vread`
 other_last : (es : List Event) (e : Event) → is_vread e ≡ false → (k : ℕ) →
     has_vread (drop k (es ++ e ∷ [])) ≡ has_vread (drop k es)
 other_last es e is zero = has_more es e ∙ ap (λ b. has_vread es || b) is ∙ or_false (has_vread es)
@@ -139,7 +139,7 @@ module _ (events : List Event) (lines : List BareLine) (n : ℕ) (e : Event) (l 
       else unbound (bound_of p a) ∷ calls_from (map seen_act waiting) es ls) some))
       ∙ here
 
--- the last line, which is that of the caller's end, makes the caller's last call
+-- the last line, which is the line of the caller's end, makes the caller's last call
 pub calls_end : (events : List Event) (lines : List BareLine) (n : ℕ) (l : BareLine) (calls : List CalledLines)
     (waiting : List BoundAct) (whole : List Call) (call : CalledLines) → n ≡ length events → length lines ≡ length events + 1 →
     l ≡ get_or lines (length events) l → seen_call call ≡ ending (seen_bare l) →

@@ -1,5 +1,5 @@
--- For each caller the code finds the fork that the definitions find: with the same parent, and with the same steps of
--- the parent before the child's.
+-- For each caller the code finds the fork that the definitions find: the parent is the same, and so are the parent's
+-- steps that come before the child's steps.
 use Rattle.std.proofs.Common.{◌≡◌, ℕ, suc, ◌+◌, ◌<◌, Bool, true, false, Option, Some, None, List, [], ◌∷◌, ◌++◌, length, take, refl, sym, subst, ap, ◌∙◌, arith, append_assoc, length-append}
 use Rattle.std.specs.Prelude.{◌==◌, if◌then◌else◌}
 use Rattle.std.specs.List.{AllByRecursion}
@@ -24,12 +24,12 @@ take_past (x ∷ a) r k =
     let e : length (x ∷ a) + k ≡ suc (length a + k) = omega arith in
     ap (λ n. take n (x ∷ (a ++ r))) e ∙ ap (λ s. x ∷ s) (take_past a r k)
 
--- the own steps of the parent before the fork's child: up to and including the first visit of the fork's line
+-- the parent's own steps that come before the child's: all steps up to and including the first visit of the fork's line
 abbrev pub steps_before : ForkPoint → List Step
 steps_before f = calls_steps f.before ++ through_visit f.line.steps
 
--- `f` is the point in `calls`, which are calls of caller p, at which caller c is first forked. Before `calls`, p made k
--- calls and n steps
+-- `f` is the point in `calls` at which caller c is first forked. Caller p makes `calls`, after k earlier calls with n
+-- steps
 record Found (c p k n : ℕ) (calls : List Call) (more : List Fork) (f : ForkPoint) : Type 0 where
   fork : Fork
   here : front_in c (forks_in p k n calls ++ more) ≡ Some fork

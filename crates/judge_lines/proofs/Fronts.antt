@@ -23,8 +23,8 @@ found_or [] i x is = cc
 found_or (y ∷ xs) zero x is = same_Some y x is
 found_or (y ∷ xs) (suc i) x is = found_or xs i x is
 
--- `piece` is the output for element i. If it is added to `done`, the output for the elements before, the whole output
--- is `done` and then the output for the elements after i
+-- `done` is the output for the elements before element i, and `piece` is the output for element i. If `piece` is added
+-- to `done`, the whole output is `done` and then the output for the elements after i
 pub goes_on : {X Y : Type 0} (F G : List X → List Y) (xs : List X) (i : ℕ) (x : X) (done piece whole : List Y) →
     i < length xs → x ≡ get_or xs i x → F (x ∷ drop (i + 1) xs) ≡ piece ++ G (drop (i + 1) xs) →
     done ++ F (drop i xs) ≡ whole → (done ++ piece) ++ G (drop (i + 1) xs) ≡ whole

@@ -74,8 +74,8 @@ module _ (c : LaneFacts) (set : Setting) where
   as_int w first a b (at_cpu v ∷ ds) h = (h.0, as_int w first b (in_cpu v.cpu v.place) ds h.1)
   as_int w first a b (nothing_there ∷ ds) h = (tt, as_int w first b nowhere ds h.1)
 
-  -- if the entry of a random integer without a refill fits the CPU's state, it fills its batch exactly if `must_fill`
-  -- is true
+  -- if the entry of a random integer without a refill fits the CPU's state, the integer fills its batch exactly if
+  -- `must_fill` is true
   batch_fills : (s : CpuState) (e : CpuEntry) (look w : ℕ) (filled : Bool) → e ≡ Int look None w filled → CpuFits s e →
       e ≡ Int look None w (must_fill look w (s.fills w))
   batch_fills s e look w filled is fits =

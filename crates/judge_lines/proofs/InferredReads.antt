@@ -166,8 +166,8 @@ system_inferred c set n flags effects form fit =
     alike c set (User n) (first_sign effects) nowhere nowhere effects
     (system_by c set (User n) n flags (first_sign effects) nowhere nowhere effects form fit)
 
--- the entries of the system call that reads a key are inferred as if no step came after it, since the next step is a
--- look
+-- the entries of the system call that reads a key are inferred as if no step came after the call, since the next step
+-- is a look
 module _ (c : LaneFacts) (set : Setting) (early taken : Taken) (first : Sign) where
   abbrev One : Taken → Sign → Sign → Sign → Effect → Type 0
   One t a b following d = Fills c set (reads t) first (record { second_before = a; before = b; following = following }) d

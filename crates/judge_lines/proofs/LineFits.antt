@@ -1,5 +1,5 @@
--- The lines of a caller are the required ones exactly if the first line is and the other lines are. The same holds
--- caller by caller.
+-- The lines of a caller are the required lines exactly if its first line is the required line and its other lines are
+-- the required lines. The same holds caller by caller.
 use Rattle.std.proofs.Common.{◌≡◌, ℕ, suc, ◌+◌, ◌<◌, List, [], ◌∷◌, length, get_or, drop, map, refl, sym, subst, arith, add-one, Some}
 use Rattle.std.specs.Prelude.{◌↔◌, slice_get}
 use Rattle.std.proofs.lemmas.List.{at_drop_all}
@@ -15,14 +15,15 @@ use Rattle.judge_lines.specs.Seen.{seen_bare, seen_callers}
 use Rattle.judge_lines.proofs.Fronts.{dropped}
 
 module _ (c n : ℕ) (es : List Event) (ls : List BareLine) where
-  -- the lines from line n on are the required ones exactly if line n is and the lines after it are
+  -- the lines from line n on are the required lines exactly if line n is the required line and the lines after it are
+  -- too
   pub fits_more : (e : Event) (l : BareLine) → n < length es → n < length ls → e ≡ get_or es n e → l ≡ get_or ls n l →
       LinesFit c n (drop n es) (map seen_bare (drop n ls))
       ↔ LineIs c n (event_word e) (seen_bare l) × LinesFit c (n + 1) (drop (n + 1) es) (map seen_bare (drop (n + 1) ls))
   fits_more e l low low' is is' =
       rw (dropped es n e low is, dropped ls n l low' is', add-one) ((λ h. h), (λ h. h))
 
-  -- the last line is the required one exactly if it is the line of the caller's end
+  -- the last line is the required line exactly if it is the line of the caller's end
   pub fits_last : (l : BareLine) (m : ℕ) → n ≡ m → length es ≡ m → length ls ≡ m + 1 → l ≡ get_or ls m l →
       LinesFit c n (drop n es) (map seen_bare (drop n ls)) ↔ LineIs c m EndWord (seen_bare l)
   fits_last l m same here long is =
@@ -45,8 +46,7 @@ callers_long c (es ∷ ess) [] fit = absurd fit
 callers_long c (es ∷ ess) (ls ∷ t) fit =
     let rest : length t ≡ length ess = callers_long (suc c) ess t fit.1 in omega arith
 
--- the lines of the callers from c on are the required ones exactly if those of caller c are and those of all callers
--- after c are
+-- the callers from c on have the required lines exactly if caller c has, and all callers after c have
 pub callers_more : (c : ℕ) (ess : List (List Event)) (t : List (Vec BareLine)) (es : List Event) (ls : Vec BareLine) →
     slice_get ess c ≡ Some es → c < length t → ls ≡ get_or t c ls →
     EachCaller CallerFits c (drop c ess) (seen_callers (drop c t))

@@ -14,7 +14,7 @@ pub is_zero : (g : ℕ) → g ≡ 0 → (g == 0) ≡ true
 is_zero g p = grind (arith, nat_tests)
 
 module _ (cpu : ℕ) where
-  -- what a step has if it is of this kind: the generation of a look, or the visit
+  -- the content of a step of this kind: the generation that a look found, or the visit
   abbrev pub One : Kind → Type 0
   One Unready = (g : ℕ) × (g ≡ 0)
   One Ready = (g : ℕ) × (1 ≤ g)

@@ -109,8 +109,8 @@ lane_sorted lane (m ∷ marks) sorted =
     )
     go false e rest = subst ByStamp (sym (left lane m marks e)) rest
 
--- of `marks`, which come after mark `a`, those in the lane of `a` go on with the next places and higher stamps; those
--- of each other lane count from place 0
+-- `marks` come after mark `a`. In the lane of `a`, they go on with the next places and with higher stamps. In each
+-- other lane, their places count up from 0
 record GoesOn (a : Mark) (marks : List MarkOf) : Type 0 where
   run : InOrder (suc a.place) (of_lane a.lane marks)
   above : AllByRecursion (λ n. a.stamp < n.stamp) (of_lane a.lane marks)
@@ -131,7 +131,7 @@ of_first m marks i order =
     subst (InOrder i) (taken m.mark.lane m marks (lane_itself m.mark.lane)) order in
     (h.0, h.1, subst (λ j. InOrder (suc j) (of_lane m.mark.lane marks)) (sym h.0) h.2)
 
--- if in each lane the places of m and `marks` count up from 0, then without m they still do in each other lane than m's
+-- if in each lane the places of m and `marks` count up from 0, the places of `marks` do so in each lane other than m's
 others_of : (m : MarkOf) (marks : List MarkOf) (order : (lane : LaneId) → InOrder 0 (of_lane lane (m ∷ marks))) →
     (lane : LaneId) → is_same_lane m.mark.lane lane ≡ false → InOrder 0 (of_lane lane marks)
 others_of m marks order lane e = subst (InOrder 0) (left lane m marks e) (order lane)

@@ -13,8 +13,8 @@ use Rattle.judge_lines.specs.Stamps.{stamp_after, IsAbove}
 abbrev Follow : Option ℕ → List Step → Type 0
 Follow last steps = Along stamp_after IsAbove last steps
 
--- if each step is allowed after the stamp carried to it, and the first stamp carried is `last`, the visits' stamps
--- rise, and the first of them is above `last`
+-- suppose that `last` is the stamp carried to the first step, and that each step is allowed after the stamp carried to
+-- it. Then the visits' stamps rise, and the first of them is above `last`
 rise_above : (last : ℕ) (steps : List Step) → Follow (Some last) steps → Rises (last ∷ stamps_of steps)
 rise_above last [] h = tt
 rise_above last (Look g ∷ steps) h = rise_above last steps h.1

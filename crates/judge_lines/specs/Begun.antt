@@ -22,7 +22,7 @@ pub record PartsConform (script : Script) (t : List (List SeenLine)) (parts : Tr
   pub sorted : IsSortedByLane parts.marks.items
   pub forks : parts.forks.items ≡ all_forks 0 (script_calls script t)
 
--- the clause is the first that fails, and it is the one on lines or the one on marks
+-- the clause is the first clause that fails, and is either the clause on lines or the clause on marks
 abbrev pub IsEarlyFault : Script → List (List SeenLine) → Clause → Type 0
 IsEarlyFault script t Lines = FirstFails script t lines_clause
 IsEarlyFault script t Marks = FirstFails script t marks_clause

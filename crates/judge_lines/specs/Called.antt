@@ -1,4 +1,4 @@
--- The calls that the code makes of events and lines, as calls of the definitions in `key_names`.
+-- The code groups events and lines into calls. Here these calls become calls of the definitions in `key_names`.
 use Rattle.std.specs.Prelude.{Bool, true, false, List, map}
 use Rattle.std.specs.Global.{Vec}
 use Rattle.key_names.specs.declared.events.Event.{Event}

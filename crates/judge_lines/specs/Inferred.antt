@@ -80,7 +80,7 @@ pub data Telling : Type 0 where
   ends : Telling
   silent : Telling
 
--- by which rule the entries of an event's line are inferred
+-- the rule by which the entries of an event's line are inferred
 abbrev pub telling : Setting → Event → Telling
 telling set (Write text) = mixes (Mix text 0)
 telling set (Device word text) = mixes (device_entry word text)
@@ -105,13 +105,14 @@ telling set (Vmfork word text) = vmforks (device_entry word text)
 telling set (Irq v1 v2) = samples v1 v2
 telling set _ = silent
 
--- if the step before is a visit of the pool, it is an extraction, and the root is named by its place; otherwise None
+-- the root that a visit takes: if the step before the visit is a visit of the pool, that step is an extraction, and its
+-- place names the root; otherwise None
 abbrev pub root_before : Sign → Option ℕ
 root_before (in_pool p) = Some p
 root_before _ = None
 
--- the place of a visit of the pool, the generation of a look, and the place of a visit of the base; each is 0 for
--- another step
+-- `pool_place_in` is the place of a visit of the pool, `look_in` the generation that a look found, and `base_place_in`
+-- the place of a visit of the base; each is 0 for any other step
 abbrev pub pool_place_in : Sign → ℕ
 pool_place_in (in_pool p) = p
 pool_place_in _ = 0
@@ -126,8 +127,8 @@ base_place_in _ = 0
 
 -- ---- the inferred entry of a visit of the pool
 
--- the first step of a line, if it is a visit of the pool, has the entry of the line's event; a later visit of the pool
--- is an extraction for the entry of the base at the place of the next step
+-- a visit of the pool that is the line's first step has the entry of the line's event; a later visit of the pool is an
+-- extraction for the base's entry at the place of the next step
 abbrev pub own_or_extracted : Sign → Sign → PoolInferred
 own_or_extracted following nowhere = own
 own_or_extracted following _ = extracted (base_place_in following)
@@ -146,7 +147,7 @@ pool_inferred (vmforks e) neighbours = own_or_extracted neighbours.following nei
 pool_inferred (samples v1 v2) neighbours = dumped_or_extracted neighbours.following neighbours.before
 pool_inferred _ neighbours = extracted (base_place_in neighbours.following)
 
--- the entry that the event of a line makes itself in the pool
+-- the pool's entry that a line's event makes itself
 abbrev pub own_entry : Telling → PoolEntry
 own_entry (mixes e) = e
 own_entry (credits e) = e
@@ -161,7 +162,7 @@ FillsPool c set t (dumped cpu k) v = v.entry ≡ Mix (dump_bytes (c.fast cpu k))
 
 -- ---- the inferred entry of a visit of the base
 
--- if the step before a visit of the base is a visit of the base too, the visit ended a wait; otherwise it is a draw
+-- a visit of the base right after another visit of the base ended a wait; otherwise the visit is a draw
 abbrev pub drawn_or_woken : Taken → Sign → BaseInferred
 drawn_or_woken taken (in_base i) = woken
 drawn_or_woken taken before = base_is (Draw (root_before before) taken)
@@ -175,13 +176,13 @@ read_inferred set taken neighbours = by neighbours.following
     by (in_base i) = base_is Wait
     by _ = drawn_or_woken taken neighbours.before
 
--- if the two steps before a visit of the base are a credit and an extraction, its entry has the extracted root;
--- otherwise it has no root
+-- if the two steps before a visit of the base are a credit and an extraction, the visit's entry has the extracted root;
+-- otherwise the entry is an early key without a root
 abbrev pub crossed_inferred : Setting → Sign → Sign → BaseInferred
 crossed_inferred set (in_pool p) before = crossed (pool_place_in before) set.now p
 crossed_inferred set _ before = base_is (Early None)
 
--- of a fork's visits of the base the first is the fork, the second a stall, and the third the end of the stall
+-- a fork's first visit of the base is the fork, its second visit a stall, and its third the end of the stall
 abbrev pub forked_inferred : ℕ → Sign → Sign → BaseInferred
 forked_inferred child second_before nowhere = base_is (Forked child)
 forked_inferred child nowhere before = base_is Stall
@@ -217,7 +218,8 @@ abbrev pub int_inferred : ℕ → ℕ → Sign → Sign → CpuInferred
 int_inferred width zero second_before before = cpu_read_inferred (Kernel width) second_before before
 int_inferred width (suc g) second_before before = cpu_int_inferred width second_before before
 
--- of an interrupt's visits of its CPU, the line's first step is the sample, and the second visit is the dump
+-- an interrupt visits its CPU at most twice: the first visit, which is the line's first step, is the sample; the second
+-- is the dump
 abbrev pub sample_inferred : Setting → ℕ → ℕ → Sign → CpuInferred
 sample_inferred set v1 v2 nowhere = cpu_is (IrqSample v1 v2 set.now)
 sample_inferred set v1 v2 before = cpu_is (Dump set.now)
@@ -245,8 +247,8 @@ abbrev pub first_sign : List Effect → Sign
 first_sign [] = nowhere
 first_sign (d ∷ ds) = sign_of d
 
--- `F` holds for each step together with the two steps before it and the one after it; `a` and `b` are the signs of the
--- two steps before the first step
+-- `F` holds for each step, with the two steps before it and the step after it; `a` and `b` are the signs of the two
+-- steps before the first step
 abbrev pub AllFill : (Neighbours → Effect → Type 0) → Sign → Sign → List Effect → Type 0
 AllFill F a b [] = ⊤
 AllFill F a b (d ∷ ds) =
@@ -256,8 +258,8 @@ AllFill F a b (d ∷ ds) =
 abbrev pub LineFills : LaneFacts → Setting → Telling → List Effect → Type 0
 LineFills c set t effects = AllFill (Fills c set t (first_sign effects)) nowhere nowhere effects
 
--- in a line of several reads, the line's last step is inferred as a step of a read that takes `taken`, and each earlier
--- step as one of a read that takes `sooner`
+-- what the read at a step takes, in a line of several reads: `taken` at the line's last step, and `sooner` at each
+-- earlier step
 abbrev pub taken_by : Taken → Taken → Sign → Taken
 taken_by sooner taken nowhere = taken
 taken_by sooner taken _ = sooner

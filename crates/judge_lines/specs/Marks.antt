@@ -27,12 +27,12 @@ lane_rank PoolLane = 0
 lane_rank BaseLane = 1
 lane_rank (CpuLane c) = 2 + c
 
--- mark `a` may come before mark `b`: its lane has a lower rank, or the lanes have the same rank and the stamp of `a` is
--- not higher
+-- mark `a` may come before mark `b`: the lane of `a` has a lower rank, or both lanes have the same rank and the stamp
+-- of `a` is not higher
 abbrev pub NotAfter : Mark → Mark → Type 0
 NotAfter a b = (lane_rank a.lane < lane_rank b.lane) ⊎ ((lane_rank a.lane ≡ lane_rank b.lane) × (a.stamp ≤ b.stamp))
 
--- each two marks that are next to each other are in order
+-- any two marks that are next to each other are in order
 abbrev pub IsSortedByLane : List MarkOf → Type 0
 IsSortedByLane [] = ⊤
 IsSortedByLane (a ∷ []) = ⊤

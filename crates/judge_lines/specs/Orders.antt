@@ -1,4 +1,4 @@
--- The forks that callers make, each with the number of its parent's own steps that come before the child's.
+-- The forks that callers make. Each fork has the number of the parent's own steps that come before the child's steps.
 use Rattle.std.specs.Prelude.{ℕ, Bool, true, false, suc, ◌+◌, ◌==◌, Option, Some, None, List, [], ◌∷◌, ◌++◌, length, if◌then◌else◌}
 use Rattle.std.specs.List.{list_any}
 use Rattle.key_names.specs.declared.events.Event.TheVariants.{Fork as ForkEvent}

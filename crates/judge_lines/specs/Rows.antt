@@ -32,8 +32,8 @@ IsRead ready kinds = ((ready ≡ false) × IsDraw kinds) ⊎ IsCpuRead kinds
 abbrev pub GoesOn : ℕ → List Kind → Type 0
 GoesOn len kinds = MatchBool (len == 0) (kinds ≡ []) (IsCpuRead kinds)
 
--- the step kinds of a wait that was interrupted, or of a wait that ended because the core was ready and the read after
--- it
+-- the step kinds of a wait that was interrupted; or of a wait that ended because the core was ready, and of the read
+-- after this wait
 abbrev pub IsWait : ℕ → List Kind → Type 0
 IsWait len kinds = (kinds ≡ Base ∷ Base ∷ []) ⊎ ((rest : List Kind) × (kinds ≡ Base ∷ Resumed ∷ rest) × GoesOn len rest)
 
@@ -136,7 +136,7 @@ IsActRow WipeAct kinds = kinds ≡ []
 IsActRow (VreadAct n) kinds = IsSystemCall n 0 kinds
 IsActRow ReseedAct kinds = IsReseed kinds
 
--- the CPU that the line of `event` visits: the one that the event names, or the one that the caller is on
+-- the CPU that the line of `event` visits: the CPU that the event names, or else the CPU that the caller is on
 abbrev pub cpu_for : Setting → Event → ℕ
 cpu_for set (Prepare cpu) = cpu
 cpu_for set (Online cpu) = cpu

@@ -1,4 +1,5 @@
--- Lines without answers and data (`BareLine`), as lines of the definitions that have no data and an arbitrary answer.
+-- Turns lines without answers and data (`BareLine`) into lines of the definitions, with no data and an arbitrary
+-- answer.
 use Rattle.std.specs.Prelude.{List, map}
 use Rattle.std.specs.Global.{Vec}
 use Rattle.key_names.specs.declared.events.Answer.TheVariants.{Ok as Done}

@@ -15,8 +15,8 @@ abbrev pub found_by : Option (Vec Setting) → ℕ → Setting
 found_by None k = first_setting
 found_by (Some settings) k = unwrap_or (slice_get settings.items k) first_setting
 
--- the setting with which a fork's child starts: that of its parent before the call that forks, or the first setting if
--- there is no fork
+-- the setting with which a fork's child starts: the parent's setting before the call that forks, or the first setting
+-- if there is no fork
 abbrev pub first_found : List (Vec Setting) → Option Fork → Setting
 first_found settings None = first_setting
 first_found settings (Some fork) = found_by (slice_get settings fork.parent) fork.calls

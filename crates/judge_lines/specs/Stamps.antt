@@ -1,4 +1,4 @@
--- The rule that stamps rise: `stamp_after` is the stamp of the last visit after one more step, and by `IsAbove` a step
+-- The rule that stamps rise. `stamp_after` is the stamp of the last visit after one more step. By `IsAbove`, a step
 -- that is a visit must have a higher stamp than the last visit.
 use Rattle.std.specs.Prelude.{ℕ, ◌<◌, ⊤, Option, Some, None}
 use Rattle.key_names.specs.declared.names.Step.{Step}

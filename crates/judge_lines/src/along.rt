@@ -142,7 +142,7 @@ fn along<C: Carry>(
     Ok(kept)
 }
 
-// The values after each prefix of a caller's own steps, if it forks another caller. Otherwise no values.
+// If the caller forks another caller, the values after each prefix of its own steps. Otherwise no values.
 fn kept_of<C: Carry>(
     alloc: Global,
     carry: &C,

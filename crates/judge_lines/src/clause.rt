@@ -3,8 +3,8 @@ ghost use Rattle.std.specs.Prelude.{◌≡◌};
 ghost use Rattle.key_names.specs.Transcripts.IsTranscript.{clause_number};
 ghost use Rattle.judge_lines.specs.Clauses.{clause_of};
 
-/// The clauses of a lawful transcript from clause 2 on, in the order in which they are judged. Clause 1, which is
-/// judged before, requires that the text is that of a transcript.
+/// The clauses of a lawful transcript from clause 2 on, in the order in which they are judged. Clause 1 is judged
+/// before them: the text must be the text of a transcript.
 #[derive(Clone, Copy, Debug, PartialEq, Eq)]
 pub enum Clause {
     /// Each caller has exactly the lines that its part of the script requires.

@@ -38,7 +38,7 @@ pub enum PoolInferred {
     Own,
     /// An extraction for the entry of the base at this place.
     Extracted(u64),
-    /// The mix of a fast pool's dump, which is at this place of this CPU's list.
+    /// The mix of a fast pool's dump; the dump is at this place of this CPU's list.
     Dumped(u32, u64),
 }
 

@@ -1,7 +1,7 @@
 //! The kinds of the steps in a line.
 
-/// The kind of a step: a look or a visit, and what is visible of it. A row is a list of kinds, one for each step that a
-/// line can have.
+/// The kind of a step: whether it is a look or a visit, and what is visible of the step. A row is a list of kinds that
+/// the steps of a line can have.
 #[derive(Clone, Copy, Debug, PartialEq, Eq)]
 pub enum Kind {
     /// A look that found generation 0: the core was not ready.

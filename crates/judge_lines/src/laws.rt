@@ -9,8 +9,8 @@ ghost use Rattle.judge_lines.specs.Laws.{LawfulListsFit, ActHasForm, ActIsInferr
 ghost use Rattle.judge_lines.specs.Laws.{ActFormIsRow, FormIsInferred, EndIsInferred, SystemCallIsInferred, SystemRowIsForm};
 ghost use Rattle.judge_lines.specs.Laws.{RowIsForm, EndRowIsForm, FormIsRow, EndFormIsRow, SystemFormIsRow};
 
-/// If the entries of an event's form fit their lanes and its samples are correct, each visit has the entry that is
-/// inferred from the steps around it.
+/// If the entries of an event's form fit their lanes and the form's samples are correct, each visit has the entry that
+/// is inferred from the steps around it.
 #[tactic(auto, using(crate::proofs::InferredEvents::form_inferred))]
 pub fn form_is_inferred()
     ensures { FormIsInferred }
@@ -96,8 +96,8 @@ pub fn act_form_is_row()
     ensures { ActFormIsRow }
 {}
 
-/// For the system call by which an attempt of a `vread` reads a key: if the system call's entries fit their lanes, and
-/// the entries of all steps after it are the inferred ones, the system call's entries are the inferred ones too.
+/// Suppose that the entries of the system call by which an attempt of a `vread` reads a key fit their lanes. If the
+/// steps after this call have the inferred entries, the steps of the call have them too.
 #[tactic(auto, using(crate::proofs::InferredReads::key_inferred))]
 pub fn key_call_is_inferred()
     ensures { KeyCallIsInferred }

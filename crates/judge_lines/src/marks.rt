@@ -139,7 +139,7 @@ fn follows(last: Option<Mark>, mark: Mark) -> bool
     }
 }
 
-/// Whether the places of each lane count up from 0, and the stamps rise with them.
+/// Whether in each lane the places count up from 0, and the stamps rise in the order of the places.
 pub(crate) fn places_count(marks: &[MarkOf]) -> bool
     requires { IsSortedByLane marks.now }
     ensures { IsTrue result ↔ ((lane : LaneId) → PlacesConform (lane_marks lane (map seen_mark marks.now))) }

@@ -26,7 +26,7 @@ fn is_visit(step: Step) -> bool
     matches!(step, Step::Visit(_))
 }
 
-// How many visits `steps` begins with, before the first step that is a look.
+// The number of visits at the start of `steps`, before the first look.
 fn visits_in_front(steps: &[Step]) -> usize
     ensures within { result ≤ length steps.now }
     ensures front { take result steps.now ≡ (cut_after_visits steps.now).0 }
@@ -76,8 +76,8 @@ fn push_at_point(own: &mut Vec<Step>, acts: &[ActLine<'_>], point: Point) -> Res
     push_at_point(own, rest, point)
 }
 
-/// The steps of a `vread` in three parts: those before its points `Start` and `Written`, those after that and before
-/// its points `Serve` and `End`, and those after these points.
+/// The steps of a `vread` in three parts: the steps before its points `Start` and `Written`, the steps from there to
+/// its points `Serve` and `End`, and the steps after these.
 pub(crate) fn cut(steps: &[Step]) -> (&[Step], &[Step], &[Step])
     ensures looks { result.0.now ≡ take 2 steps.now }
     ensures rekey { result.1.now ≡ (cut_after_rekey (drop 2 steps.now)).0 }

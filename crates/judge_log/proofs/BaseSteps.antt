@@ -49,7 +49,7 @@ module _ (lists : Lists) (pool : List KeptPool) (keeps : KeepsPoolLane pool list
   abbrev state : ℕ → PoolState
   state p = pool_after (take p lists.pool)
 
-  -- at place `p`, the kept data and the pool's entries both have an element (`Both`), or neither list has one
+  -- at place `p`, both the kept data and the pool's entries have an element (`Both`), or neither list has one there
   -- (`Neither`)
   pub record Both (p : ℕ) : Type 0 where
     pub kept : KeptPool

@@ -227,7 +227,7 @@ refill_keeps Interrupt named is = cc
 refill_keeps Stall named is = cc
 refill_keeps Unstall named is = cc
 
--- if each erased key is kept, and `kept` are the data about a refill of CPU `c`, `kept` has a key
+-- if each erased key is kept, the data `kept` about a refill of CPU `c` have a key
 pub handed_none : (base : List KeptBase) → KeysKept base → (c place look b : ℕ) (kept : KeptBase) →
     slice_get base b ≡ Some kept → NamesIn c place look (Some kept) → kept.key ≡ None → ⊥
 handed_none base keys c place look b kept is names none =

@@ -163,7 +163,7 @@ cpu_counted inferred c =
     ∙ filled_count (λ s (u : InferredCpu). cpu_inferred_entry s u.entry) (cpu_step (closed_base inferred) c) cpu_start
     (list_at inferred.cpus c)
 
--- if a CPU's list matches the inferred entries, its fast pools are those replayed from the inferred entries
+-- if a CPU's list matches the inferred entries, the list and the inferred entries give the same fast pools
 pub fast_same : (inferred : Tables) (lists : Lists) (c : ℕ) →
     length (cpu_list lists c) ≡ length (list_at inferred.cpus c) →
     ((k : ℕ) (t : InferredCpu) (e : CpuEntry) → slice_get (list_at inferred.cpus c) k ≡ Some t →

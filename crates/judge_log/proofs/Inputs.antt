@@ -8,7 +8,7 @@ use Rattle.input_pool.proofs.Callers.{mixed, mixed_and_credited, input_bytes, cr
 use Rattle.sample_credit.specs.LastInput.{LastInput}
 use Rattle.judge_log.specs.PoolLane.{LaneConforms}
 
--- an input event whose value differs from the value of the last one: `between` is the pool after the event's sample was
+-- an input event whose value differs from the last event's value: `between` is the pool after the event's sample was
 -- mixed, and `kept` records the new value
 pub record Mixed (s : PoolState) (word kind code value : ℕ) (before between : PoolParts) (last kept : LastInput)
     (text : List ℕ) : Type 0 where

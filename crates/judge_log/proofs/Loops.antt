@@ -1,5 +1,5 @@
--- A loop over a list, which keeps an item for each index: `P` holds of each index that the loop has passed, and `S` of
--- the item kept for it.
+-- A loop over a list keeps an item for each index. `P` holds of each index that the loop has passed, and `S` of the
+-- item kept for this index.
 use Rattle.std.proofs.Common.{◌≡◌, ◌<◌, ◌+◌, ℕ, zero, suc, List, [], ◌∷◌, ◌++◌, length, take, Some, None, get_or, refl, sym, subst, ap, ◌∙◌, arith, inl, inr, ◌⊎◌}
 use Rattle.std.specs.Prelude.{slice_get}
 use Rattle.std.specs.List.{fold}

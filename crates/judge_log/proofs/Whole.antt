@@ -1,5 +1,5 @@
--- The completed lists are lawful exactly if each lane was found lawful and, by the kept data, entries that name each
--- other do so mutually.
+-- The completed lists are lawful exactly if each lane was found lawful, and if the kept data show that each extraction
+-- and each refill is named back by the entry that it names.
 use Rattle.std.proofs.Common.{◌≡◌, ℕ, zero, suc, List, [], ◌∷◌, length, map, Option, Some, None, refl, sym, subst, ap, ◌∙◌}
 use Rattle.std.specs.Prelude.{slice_get, option_and_then}
 use Rattle.key_names.specs.Lanes.PoolList.{extraction_at}
@@ -137,7 +137,7 @@ pub cpus_may_come : (lists : Lists) → LawfulLanes lists → AllCpusMay lists
 cpus_may_come lists h c k e is =
     may_at (CpuMayCome lists.base c) (cpu_step lists.base c) cpu_start (cpu_list lists c) k e (h.forward.cpus c) is
 
--- if AllCpuMay holds of each CPU in `lists`, it holds of every CPU number, since a CPU that does not exist has no
+-- if AllCpuMay holds of each CPU in `lists`, it holds of every CPU number, since the CPUs that do not exist have no
 -- entries
 pub cpus_may : (lists : Lists) → AllPlaces (λ c lane. AllCpuMay lists c) lists.cpus → AllCpusMay lists
 cpus_may lists all c k e is = all c (list_at lists.cpus c) (list_there lists.cpus c k e is) k e is

@@ -10,7 +10,7 @@ use Rattle.judge_log.specs.declared.kept.KeptRoot.{KeptRoot}
 use Rattle.judge_log.specs.declared.kept.KeptPool.{KeptPool}
 use Rattle.judge_log.specs.Places.{AllPlaces}
 
--- the base's state in the definitions, from the value `b` that the code has. The code keeps no place, roots or name of
+-- the base's state by the definitions, made from the code's value `b`. The code keeps no place, no roots and no name of
 -- the key, so these fields are 0 or none
 abbrev pub state_of : BaseValue → BaseState
 state_of b = record {

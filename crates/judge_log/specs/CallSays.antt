@@ -80,8 +80,8 @@ module _ (kept : KeptLists) (set : Setting) where
   CallSaid (unbound bound) old new writes = UnboundSaid bound old new writes
   CallSaid (ending line) old new writes = EndingSaid line old new writes
 
--- if the bool is true, the call has answers and data, and `notes'` is `notes` with them added; if it is false, the call
--- has none
+-- if the bool is true, the call has answers and data, and `notes'` is `notes` with notes of them added. If it is false,
+-- the call has no answers and data
 module _ {Noted : Type 0} (IsNoted : ℕ → MadeLine → Noted → Type 0) (kept : KeptLists) (set : Setting) where
   abbrev pub IsCallSaid : Call → VStates → VStates → List Noted → List Noted → Bool → Type 0
   IsCallSaid call old new notes notes' true =
@@ -90,8 +90,8 @@ module _ {Noted : Type 0} (IsNoted : ℕ → MadeLine → Noted → Type 0) (kep
       (t : VStates) (writes : List Write) → CallSaid kept set call old t writes → ⊥
 
 module _ (kept : KeptLists) where
-  -- `writes` has the answers and data of the calls, in order; each call is taken with its setting; `s` and `t` are the
-  -- vgetrandom states before and after the calls
+  -- `writes` has the answers and data of the calls, in order; the setting of each call is taken from the list of
+  -- settings; `s` and `t` are the vgetrandom states before and after the calls
   abbrev pub CallsSaid : List Setting → List Call → VStates → VStates → List Write → Type 0
   CallsSaid [] calls s t writes = (t ≡ s) × (writes ≡ [])
   CallsSaid (set ∷ sets) [] s t writes = (t ≡ s) × (writes ≡ [])

@@ -75,7 +75,7 @@ FitsKept g f Online = ⊤
 
 -- ---- refills of the CPU by the base
 
--- the look and the refill that an entry names, if it names one
+-- if the entry names a refill: the generation that the entry's look found, and the refill's place
 abbrev pub refill_named : CpuEntry → Option (ℕ × ℕ)
 refill_named (Read look (Some refill) taken) = Some (look, refill)
 refill_named (Read look None taken) = None

@@ -32,7 +32,7 @@ use Rattle.judge_log.specs.declared.said.ShownRecipe.{ShownRecipe}
 use Rattle.judge_log.specs.declared.said.ShownRecipe.TheVariants.{Nothing as ShowsNothing, Count, Served}
 use Rattle.judge_log.specs.Met.{met_in, kinds_met}
 
--- the crossing of the first visit of the pool, if there is one
+-- the threshold that the first visit of the pool crossed, if any
 abbrev pub first_crossing : List KeptStep → Crossing
 first_crossing [] = CrossedNothing
 first_crossing (InPool kept ∷ met) = kept.crossing
@@ -72,7 +72,7 @@ abbrev pub recipe_or_none : Option KeptStep → Recipe
 recipe_or_none None = no_recipe
 recipe_or_none (Some met) = recipe_met met
 
--- the recipe for the bytes of a read: those that its last visit serves
+-- the recipe for the bytes that a read's last visit serves, which are the read's bytes
 abbrev pub last_recipe : List KeptStep → Recipe
 last_recipe met = recipe_or_none (slice_get met (length met - 1))
 
@@ -149,8 +149,8 @@ module _ (kept : KeptLists) (set : Setting) where
   IsAloneSaid event steps None = AloneConforms event steps → ⊥
   IsAloneSaid event steps (Some said) = AloneConforms event steps × (said ≡ alone_says event steps)
 
-  -- if the act's point was reached (the bool), the kinds of the steps are those of a form of the act; if not, the act
-  -- has no steps
+  -- the bool is true if the act's point was reached. Then the kinds of the steps are those of a form of the act;
+  -- otherwise the act has no steps
   abbrev pub ActConforms : Bool → InsideAct → List Step → Type 0
   ActConforms true act steps = IsActRow act (kinds_met set.cpu (met_in kept steps))
   ActConforms false act steps = steps ≡ []

@@ -30,7 +30,7 @@ AllMean script t book ms =
 
 pub record IsGathered (script : Script) (t : List (List SeenLine)) (inferred : Tables) : Type 0 where
   pub in_range : InRange inferred
-  -- the tables have as many rows for each lane as the transcript has marks of this lane
+  -- for each lane, the tables have as many rows as the transcript has marks
   pub pool_count : length inferred.pool ≡ length (lane_marks PoolLane (all_marks t))
   pub base_count : length inferred.base ≡ length (lane_marks BaseLane (all_marks t))
   pub cpus_count : length inferred.cpus ≡ script.cpus

@@ -1,4 +1,4 @@
--- Lists that match the inferred entries are lawful if their lanes are lawful, and also the dumps of the fast pools.
+-- Lists that match the inferred entries are lawful if their lanes and the dumps of the fast pools are lawful.
 use Rattle.std.specs.Prelude.{ℕ, ◌≡◌, ⊤, Bool, Some, take, slice_get}
 use Rattle.key_names.specs.declared.entries.CpuEntry.{CpuEntry}
 use Rattle.key_names.specs.declared.entries.CpuEntry.TheVariants.{Read, Int, Irq, Dump, Prepare, Online}
@@ -8,7 +8,8 @@ use Rattle.judge_log.specs.declared.inferred.InferredPool.TheVariants.{Dumped as
 use Rattle.judge_log.specs.declared.inferred.InferredCpu.{InferredCpu}
 use Rattle.judge_log.specs.Tables.{Tables}
 
--- an interrupt makes a dump of the fast pool `f` due exactly if the bool is true, which means that its line has a dump
+-- an interrupt makes a dump of the fast pool `f` due exactly if the bool is true; the bool is whether the interrupt's
+-- line has a dump
 abbrev pub DueConforms : FastPool → Bool → CpuEntry → Type 0
 DueConforms f dumps (Irq v1 v2 now) = makes_due f now ≡ dumps
 DueConforms f dumps (Read look refill taken) = ⊤

@@ -41,7 +41,7 @@ first_shown (step ∷ steps) = step_sign step
 
 -- ---- the rows of the tables
 
--- the pool's row is the entry that is inferred
+-- the row of the pool's table is the inferred entry
 abbrev pub IsPoolRow : Setting → Telling → PoolInferred → InferredPool → Type 0
 IsPoolRow set t own (pool_is note) = entry_of note ≡ own_entry t
 IsPoolRow set t own (dumped cpu place) = ⊥
@@ -68,7 +68,7 @@ dumps_inferred _ neighbours = false
 abbrev pub cpu_row : Setting → Telling → Sign → Neighbours → InferredCpu
 cpu_row set t first neighbours = record { entry = cpu_inferred set t first neighbours; dumps = dumps_inferred t neighbours }
 
--- the row at a place of a lane is the one inferred from the steps around the visit; `first` is the line's first step
+-- the row at a place of a lane is the row inferred from the steps around the visit; `first` is the line's first step
 abbrev pub RowAt : Tables → Setting → Telling → Sign → Neighbours → LaneId → ℕ → Type 0
 RowAt inferred set t first neighbours PoolLane place = PoolRowAt inferred set t neighbours place
 RowAt inferred set t first neighbours BaseLane place = slice_get inferred.base place ≡ Some (base_inferred set t neighbours)
@@ -78,7 +78,7 @@ RowAt inferred set t first neighbours (CpuLane c) place =
 -- ---- the rows of one line
 
 -- `R` holds of each step with its neighbours (the steps around it); `a` and `b` are the signs of the two steps before
--- the first
+-- the first step
 abbrev pub AllRows : (Neighbours → Step → Type 0) → Sign → Sign → List Step → Type 0
 AllRows R a b [] = ⊤
 AllRows R a b (step ∷ steps) =
@@ -89,8 +89,8 @@ abbrev pub part_telling : ℕ → Neighbours → Telling
 part_telling n neighbours = reads (taken_by (User 32) (User n) neighbours.following)
 
 module _ (inferred : Tables) where
-  -- if the step is a visit, the row at its place is the one inferred from the line's kind and the steps around the
-  -- visit
+  -- if the step is a visit, the row at the visit's place is the row inferred from the line's kind and the steps around
+  -- the visit
   abbrev pub RowConforms : Setting → (Neighbours → Telling) → Sign → Neighbours → Step → Type 0
   RowConforms set tell first neighbours (Look g) = ⊤
   RowConforms set tell first neighbours (Marked mark) = RowAt inferred set (tell neighbours) first neighbours mark.lane mark.place
@@ -101,7 +101,7 @@ module _ (inferred : Tables) where
   abbrev pub ActRows : Setting → BoundAct → Type 0
   ActRows set bound = LineRows set (λ neighbours. act_telling bound.act) bound.line.steps
 
-  -- at the places of the marks of a call's lines, the tables have the rows inferred for them; `set` is the call's
+  -- at the place of each mark in a call's lines, the tables have the row inferred for this mark; `set` is the call's
   -- setting
   abbrev pub CallRows : Setting → Call → Type 0
   CallRows set (alone event line) = LineRows set (λ neighbours. telling set event) line.steps
@@ -114,6 +114,6 @@ module _ (inferred : Tables) where
   CallsRows set [] = ⊤
   CallsRows set (call ∷ calls) = CallRows set call × CallsRows (setting_after_call set call) calls
 
-  -- at the places of the marks of all callers' lines, the tables have the rows inferred for them
+  -- at the place of each mark in the lines of all callers, the tables have the row inferred for this mark
   abbrev pub AllCallsRows : List (List Call) → Type 0
   AllCallsRows callers = (c : ℕ) → c < length callers → CallsRows (start_setting callers c) (list_at callers c)

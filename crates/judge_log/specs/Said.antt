@@ -30,14 +30,14 @@ pub record NotedAt {Noted : Type 0} (IsNoted : ℕ → MadeLine → Noted → Ty
 abbrev pub itself : ℕ → ℕ → MadeLine → MadeLine → Type 0
 itself caller event said noted = noted ≡ said
 
--- `At` holds of the line's event number with an answer and data, which are those of the line's meaning `m`
+-- `At` holds of the number of the line's event, with the answer and data in the line's meaning `m`
 pub record SaysIt (At : ℕ → MadeLine → Type 0) (line : SeenLine) (m : LineMeaning) : Type 0 where
   pub one : MadeLine
   pub is : At line.event one
   pub answer : m.answer ≡ one.answer
   pub shown : m.shown ≡ shown_by one.shows
 
--- the calls have lawful meanings, and `At` holds of each event's number with the answer and data of these meanings
+-- the calls have lawful meanings, and `At` holds of each event's number, with the answer and data in these meanings
 pub record IsSaid (lists : Lists) (set : Setting) (calls : List Call) (At : ℕ → MadeLine → Type 0) : Type 0 where
   pub meanings : List CallMeaning
   pub mean : CallerMeans lists set calls meanings

@@ -117,7 +117,7 @@ pub record IsLonger (lane : LaneId) (old new : Tables) : Type 0 where
   pub rows : (other : LaneId) →
       rows_in new other ≡ (if is_same_lane lane other then suc (rows_in old other) else rows_in old other)
 
--- the lane is a CPU, and its number is not below the number of CPUs
+-- the lane is a CPU whose number is at least the number of CPUs
 abbrev pub IsAbsent : ℕ → LaneId → Type 0
 IsAbsent cpus PoolLane = ⊥
 IsAbsent cpus BaseLane = ⊥

@@ -64,7 +64,7 @@ fn enter(base: &mut Base, entry: BaseEntry, root: [u8; 32]) -> Option<[u8; 32]>
     None
 }
 
-/// The crossing (of 128 or of 256 bits) that the entry at `place` of the pool makes, if it makes one.
+/// The threshold (128 or 256 bits) that the entry at `place` of the pool crosses, if any.
 fn crossed_at(pool: &[KeptPool], place: u64) -> Crossing
     ensures { crossing_of result ≡ crossed_of pool.now place }
 {
@@ -94,8 +94,8 @@ fn close(base: &Base, inferred: BaseInferred, pool: &[KeptPool]) -> BaseEntry
     }
 }
 
-/// The value of the named root, or zeros if no root is named. `None` if the root's place is below `least`, or if the
-/// pool has no extraction there for this place of the base.
+/// If a root is named, its value; otherwise zeros. `None` if the named place is below `least`, or if the pool has, at
+/// the named place, no extraction for `place` of the base.
 fn root_value(pool: &[KeptPool], least: u64, place: u64, named: Option<u64>) -> Option<[u8; 32]>
     ensures { MatchOption result (RootConformsIn pool.now least place named → ⊥) (λ value.
         RootConformsIn pool.now least place named × ((r : ℕ) → named ≡ Some r → root_value_in pool.now r ≡ Some value)) }

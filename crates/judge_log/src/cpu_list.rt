@@ -22,7 +22,7 @@ use judge_lines::inferred::CpuInferred;
 use key_names::{BaseEntry, CpuEntry};
 use std::alloc::{AllocError, Global};
 
-/// The look of the entry, and the place of the base's refill that the entry names, if it names one.
+/// If the entry names a refill of the base: the generation that the entry's look found, and the refill's place.
 fn refill_named(entry: CpuEntry) -> Option<(u64, u64)>
     ensures { result ≡ refill_named entry }
 {
@@ -41,7 +41,8 @@ fn refill_named(entry: CpuEntry) -> Option<(u64, u64)>
     }
 }
 
-/// Whether a visit of the base is a refill for this place of this CPU, and leaves a generation of at least `look`.
+/// Whether a visit of the base is a refill for `place` of CPU `cpu`, and the generation after this visit is at least
+/// `look`.
 fn refills(kept: &KeptBase, cpu: u32, place: u64, look: u64) -> bool
     ensures { IsTrue result ↔ NamesIn cpu place look (Some kept.now) }
 {
@@ -70,9 +71,9 @@ fn hand_over(kept: &KeptBase) -> Option<Cpu>
     Some(Cpu::with(derive_key(&mut key), kept.generation))
 }
 
-/// The key and generation that an entry at this place of the CPU gets from the refill that it names, or `Some(None)` if
-/// it names no refill. `None` if the named visit of the base is no refill for this place, or leaves a generation below
-/// the look.
+/// The key and generation that `entry`, at `place` of the CPU, gets from the refill that it names, or `Some(None)` if
+/// it names no refill. `None` if the named visit of the base is no refill for this place, or if the generation after
+/// that visit is below the entry's look.
 fn handed(base: &[KeptBase], cpu: u32, place: u64, entry: CpuEntry) -> Option<Option<Cpu>>
     requires { KeysKept base.now }
     ensures { MatchOption result (RefillConformsIn base.now cpu place (refill_named entry) → ⊥) (λ handed.

@@ -16,7 +16,7 @@ use judge_vread::served::Served;
 use key_names::{Answer, BaseEntry, CpuEntry, Event, InsideAct, Step, Taken, flags};
 use std::alloc::AllocError;
 
-// The crossing of the first visit of the pool, if there is one.
+// The threshold that the line's first visit of the pool crossed, if any.
 fn first_crossing(met: &[KeptStep]) -> Crossing
     ensures { result ≡ first_crossing met.now }
 {
@@ -37,7 +37,7 @@ fn taken_served(key: &[u8; 32], taken: Taken) -> Served
     }
 }
 
-// The bytes of an integer; none if its batch of 96 bytes is used up.
+// The bytes of an integer, or no bytes if its batch of 96 bytes is used up.
 fn int_served(key: &[u8; 32], width: u8, count: u32) -> Served
     ensures { result ≡ batch_recipe key.now width count }
 {
@@ -78,7 +78,7 @@ fn visit_served(met: &KeptStep) -> Served
     }
 }
 
-// The bytes of a read, which are those of its last visit.
+// The bytes that a read's last visit serves, which are the read's bytes.
 fn last_served(met: &[KeptStep]) -> Served
     ensures { result ≡ last_recipe met.now }
 {

@@ -144,7 +144,7 @@ fn pool_row<'a>(
     }
 }
 
-// What a read inside a `vread` takes: if no step follows, the `len` bytes of the `vread`; otherwise a key.
+// What a read inside a `vread` takes: the `len` bytes of the `vread` if no step follows, and otherwise a key.
 fn taken(len: u32, following: Sign) -> Taken
     ensures { result ≡ forms.taken_by (User 32) (User len) following }
 {
@@ -218,7 +218,7 @@ fn cpu_row(
     }
 }
 
-// Puts a row at its place, if the table has that place.
+// Puts `row` at `place` of a table, if the table has this place.
 fn put<T: Copy>(rows: &mut Vec<T>, place: u64, row: T)
     ensures at { place < length rows.old.items → slice_get rows.new.items place ≡ Some row }
     ensures others { (k : ℕ) → k ≢ place → slice_get rows.new.items k ≡ slice_get rows.old.items k }
@@ -229,7 +229,7 @@ fn put<T: Copy>(rows: &mut Vec<T>, place: u64, row: T)
     }
 }
 
-// If the step is a visit, puts its row at the place that the step visits.
+// If the step is a visit, puts the row of the visit at the place that it visits.
 fn put_row<'a>(
     inferred: &mut InferredEntries<'a>,
     step: Step,
@@ -268,7 +268,7 @@ fn put_row<'a>(
     }
 }
 
-// Puts the row of each visit of a line at the place that is visited.
+// For each visit of a line, puts the visit's row at the place that it visits.
 fn tell_line<'a>(
     inferred: &mut InferredEntries<'a>,
     set: &LineSetting,
@@ -329,7 +329,7 @@ fn tell_call<'a>(inferred: &mut InferredEntries<'a>, set: &LineSetting, call: &C
     }
 }
 
-// Puts the rows of all calls of a caller; each call is taken with its setting.
+// Puts the rows of a caller's calls. `settings` has the setting before each call.
 fn tell_calls<'a>(
     inferred: &mut InferredEntries<'a>,
     calls: &[CalledLines<'a>],

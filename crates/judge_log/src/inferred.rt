@@ -2,7 +2,7 @@
 use judge_lines::inferred::{BaseInferred, CpuInferred};
 use key_names::PoolNote;
 
-/// The entry of the pool that is inferred for a visit.
+/// The pool's entry that is inferred for a visit.
 #[derive(Clone, Copy)]
 pub enum InferredPool<'a> {
     /// An entry that is known in full: one that the event makes from its own fields, or an extraction.
@@ -11,11 +11,12 @@ pub enum InferredPool<'a> {
     Dumped { cpu: u32, place: u64 },
 }
 
-/// The entry of a CPU that is inferred for a visit.
+/// The CPU's entry that is inferred for a visit.
 #[derive(Clone, Copy, Debug, PartialEq, Eq)]
 pub struct InferredCpu {
     pub entry: CpuInferred,
-    /// Whether, in an interrupt's line, the next step dumps the CPU's fast pool. This matters only for the sample.
+    /// Whether the visit is in an interrupt's line, and the next step dumps the CPU's fast pool. This matters only for
+    /// the interrupt's sample.
     pub dumps: bool,
 }
 

@@ -5,7 +5,7 @@ ghost use Rattle.judge_log.specs.Kept.{no_source};
 use input_pool::Crossing;
 use key_names::{BaseEntry, CpuEntry};
 
-/// A root from the pool, and the place of the base's entry that the extraction names.
+/// An extracted root, and the place of the base's entry that the extraction names.
 #[derive(Clone, Copy, Debug, PartialEq, Eq)]
 pub struct KeptRoot {
     pub value: [u8; 32],
@@ -17,7 +17,7 @@ pub struct KeptRoot {
 pub struct KeptPool {
     /// The pool's bits before the visit, 0 to 256.
     pub before: u32,
-    /// The crossing of 128 or 256 bits by this visit, if it makes one.
+    /// The threshold (128 or 256 bits) that this visit crosses, if any.
     pub crossing: Crossing,
     /// The root, if the visit is an extraction.
     pub root: Option<KeptRoot>,

@@ -6,8 +6,8 @@ ghost use Rattle.judge_log.specs.Tables.{IsWidth};
 /// The number of bytes in a batch.
 const BATCH_BYTES: u8 = 96;
 
-/// The last fill of a batch: its look, the key that was in use, and how many integers the batch has served since, the
-/// first included.
+/// The last fill of a batch: the generation that its look found, the key that was in use, and how many integers the
+/// batch has served since, including the integer that filled it.
 #[derive(Clone, Copy)]
 pub(crate) struct LastFill {
     pub(crate) look: u64,
@@ -64,7 +64,7 @@ impl LastFills {
     }
 
     /// Whether an integer of this width must first fill its batch. This is so if the batch was never filled, is used
-    /// up, or was filled with another look.
+    /// up, or was filled after a look that found another generation.
     pub(crate) fn wants(&self, look: u64, width: u8) -> bool
         requires { IsWidth width }
         ensures { result ≡ wants_kept look width (slot self.now width) }

@@ -3,13 +3,13 @@
 //! states.
 //!
 //! [`gather::gather`] makes a row for each mark: the entry of the visit, inferred from the steps around it and from its
-//! caller's setting (`judge_lines`). An inferred entry leaves four things open: what a credit crossed, whether a
-//! waiting caller went on, whether an integer filled its batch, and what a dump mixed. [`replay_lists`] completes the
-//! entries in the order CPUs' fast pools, pool, base, CPUs. It replays each list with the parts that the core also
-//! uses, such as the input pool. For each visit it keeps the data from which the answer and bytes of the visit's line
-//! are made. [`calls::caller_said`] goes through the calls of one caller, with its sixteen vgetrandom states, and makes
-//! the answer of each line and a recipe for the bytes. The argument `how` ([`said::Note`]) determines what is noted of
-//! both.
+//! caller's setting (`judge_lines`). An inferred entry leaves four things open: which threshold a credit crossed,
+//! whether a waiting caller went on, whether an integer filled its batch, and what a dump mixed. [`replay_lists`]
+//! completes the entries in this order: the CPUs' fast pools, the pool, the base, the CPUs. It replays each list with
+//! the parts that the core also uses, such as the input pool. For each visit it keeps the data from which the answer
+//! and bytes of the visit's line are made. [`calls::caller_said`] goes through the calls of one caller, with its
+//! sixteen vgetrandom states, and makes the answer of each line and a recipe for the bytes. The argument `how`
+//! ([`said::Note`]) determines what is noted of an answer and its recipe.
 //!
 //! # Example
 //!
@@ -28,7 +28,7 @@
 //!
 //! # Proved
 //!
-//! - [`gather::gather`]: lists match these tables exactly if each line's visits have the entries that are inferred from
+//! - [`gather::gather`]: lists match its tables exactly if each line's visits have the entries that are inferred from
 //!   the line's own steps. The dumps of the tables are lawful exactly if the samples of interrupts are.
 //! - [`replay_lists`]: the data kept about the lists that match, or `None` exactly if no lawful lists match the tables.
 //!   `specs/Fills` defines the lists that match, `specs/Lawful` the lawful ones, and `specs/Kept` the data.

@@ -9,7 +9,7 @@ ghost use Rattle.judge_log.specs.Names.{AllRefillsAnswered};
 use crate::kept::{KeptBase, KeptCpu, KeptPool};
 use key_names::{BaseEntry, CpuEntry};
 
-/// The place of the extraction whose root an entry of the base takes, if the entry names one.
+/// If the base's `entry` takes the root of an extraction, the place of this extraction.
 pub fn root_of(entry: BaseEntry) -> Option<u64>
     ensures { result ≡ root_of entry }
 {
@@ -21,7 +21,7 @@ pub fn root_of(entry: BaseEntry) -> Option<u64>
     }
 }
 
-/// The place of the base's refill that gives an entry of a CPU its key, if the entry names one.
+/// If the CPU's `entry` takes a key from a refill of the base, the place of this refill.
 pub fn base_refill_of(entry: CpuEntry) -> Option<u64>
     ensures { result ≡ base_refill_of entry }
 {
@@ -38,7 +38,7 @@ fn root_at(base: &[KeptBase], place: u64) -> Option<u64>
     root_of(base.get(place as usize)?.entry)
 }
 
-/// Whether each extraction is named back by the base's entry that it names.
+/// Whether, for each extraction, the base's entry that the extraction names also names the extraction.
 pub(crate) fn extractions_answered(pool: &[KeptPool], base: &[KeptBase]) -> bool
     ensures { IsTrue result ↔ AllExtractionsAnswered pool.now base.now }
 {
@@ -59,7 +59,8 @@ fn refill_at(cpus: &[Vec<KeptCpu>], cpu: u32, place: u64) -> Option<u64>
     base_refill_of(cpus.get(cpu as usize)?.get(place as usize)?.entry)
 }
 
-/// If the base's visit at `place` is a refill, whether the CPU's entry that it names names it back. Otherwise true.
+/// If the base's visit at `place` is a refill, whether the CPU's entry that the refill names also names the refill.
+/// Otherwise true.
 fn refill_answered(kept: &KeptBase, place: u64, cpus: &[Vec<KeptCpu>]) -> bool
     ensures { IsTrue result ↔ AnsweredBy (map (λ lane. lane.items) cpus.now) place (refill_of kept.now.entry) }
 {
@@ -69,7 +70,7 @@ fn refill_answered(kept: &KeptBase, place: u64, cpus: &[Vec<KeptCpu>]) -> bool
     }
 }
 
-/// Whether each refill is named back by the CPU's entry that it names.
+/// Whether, for each refill, the CPU's entry that the refill names also names the refill.
 pub(crate) fn refills_answered(base: &[KeptBase], cpus: &[Vec<KeptCpu>]) -> bool
     ensures { IsTrue result ↔ AllRefillsAnswered base.now (map (λ lane. lane.items) cpus.now) }
 {

@@ -40,8 +40,8 @@ impl<N: Note> Notes<'_, N> {
             self.noted.push(one)?;
             return Ok(());
         }
-        // Earlier events that have no note yet get the note of an act that was not done. It is replaced when the note
-        // of such an event is made.
+        // Earlier events that have no note yet get the note of an act that was not done. This note is replaced when the
+        // event's own note is made.
         while self.noted.len() <= place {
             let none = self.note(self.noted.len() as u32, unused());
             self.noted.push(none)?;

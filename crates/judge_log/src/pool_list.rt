@@ -24,7 +24,7 @@ const READY_BITS: u32 = 256;
 /// At this number of bits the core is seeded early (`POOL_EARLY_BITS`).
 const EARLY_BITS: u32 = 128;
 
-/// The crossing that a change of the bits from `before` to `after` makes.
+/// The threshold that the pool's bits cross if they change from `before` to `after`, if any.
 fn crossed(before: u32, after: u32) -> Crossing
     ensures { crossing_of result ≡ crossing before after }
 {
@@ -54,8 +54,8 @@ impl PoolReplay {
         }
     }
 
-    /// Adds an input event. An event that repeats the last value has no effect. Any other event mixes its sample, and
-    /// its moment determines a credit unless the pool is full.
+    /// Adds an input event. An event that repeats the last value has no effect. Any other event mixes its sample. If
+    /// the pool is not full then, the event's moment determines a credit.
     fn input(&mut self, word: u64, kind: u16, code: u16, value: u8, now: u64)
         requires { now < 2 ^ 40 }
         ensures { (s : PoolState) → LaneConforms self.old s
@@ -116,7 +116,7 @@ fn dump_at(dumps: &[Vec<Option<Dump>>], cpu: u32, place: u64) -> Option<Dump>
 }
 
 /// Changes the pool by a visit, and returns the root if the visit is an extraction. `None` if the visit mixes a dump
-/// that its CPU does not have at the named place.
+/// but the named CPU has no dump at the named place.
 fn visit(
     lane: &mut PoolReplay,
     inferred: &InferredPool,
@@ -140,8 +140,8 @@ fn visit(
     }
 }
 
-/// Replays the pool's list, and returns the data kept about its visits. `None` if a visit mixes a dump that its CPU
-/// does not have at the named place.
+/// Replays the pool's list, and returns the data kept about its visits. `None` if a visit mixes a dump but the named
+/// CPU has no dump at the named place.
 pub(crate) fn replay_pool(
     alloc: Global,
     inferred: &InferredEntries,

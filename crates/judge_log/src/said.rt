@@ -28,7 +28,7 @@ pub trait Note {
     /// event's.
     ghost IsNoted: { Self → ℕ → ℕ → SaidOfLine → Self.Noted → Type 0 };
 
-    /// Makes the note of an event's answer and data; `event` is its number among the events of `caller`.
+    /// Makes the note of an event's answer and data; `event` is the event's number among the events of `caller`.
     fn note(&self, caller: u32, event: u32, said: MadeLine) -> Self::Noted
         ensures { IsNoted self.now caller event said result };
 }

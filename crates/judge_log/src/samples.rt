@@ -52,8 +52,8 @@ fn take_sample(fast: &mut FastPool, inferred: &InferredCpu) -> SampleEffect
     }
 }
 
-/// The dump of each visit of a CPU. `None` if some interrupt makes a dump due but its line has no dump, or makes none
-/// due but its line has one.
+/// The dump of each visit of a CPU. `None` if some interrupt makes a dump due that its line lacks, or if the line of
+/// some interrupt has a dump that is not due.
 fn dumps_of(
     alloc: Global,
     inferred: &InferredEntries,
@@ -78,8 +78,8 @@ fn dumps_of(
     Ok(Some(dumps))
 }
 
-/// The dump of each visit of each CPU. `None` if some interrupt makes a dump due but its line has no dump, or makes
-/// none due but its line has one.
+/// The dump of each visit of each CPU. `None` if some interrupt makes a dump due that its line lacks, or if the line of
+/// some interrupt has a dump that is not due.
 pub(crate) fn all_dumps(
     alloc: Global,
     inferred: &InferredEntries,

@@ -50,7 +50,7 @@ impl ReplayedStates {
         Ok(ReplayedStates { all, current: 0 })
     }
 
-    /// Changes the states as the definition says for a single event (a wipe, or another current state).
+    /// Changes the states as the definition requires for a single event (a wipe, or another current state).
     pub fn turn(&mut self, event: &Event)
         requires { StateInRange event.now }
         ensures { self.new ≡ states_after event.now self.old }

@@ -72,8 +72,8 @@ impl<N: Note> CallerWalk<'_, N> {
         Ok(true)
     }
 
-    /// Handles a `vread`. Returns whether the steps of the `vread`, and of the acts inside it, are the steps of one
-    /// vgetrandom call.
+    /// Handles a `vread`. Returns whether its steps can be followed as such a `vread`, and the steps of each act inside
+    /// it match a form of the act. An act whose point was not reached must have no steps.
     ///
     /// # Errors
     ///

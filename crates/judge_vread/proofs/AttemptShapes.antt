@@ -53,7 +53,7 @@ Known (nothing_there ∷ ds) = Known ds
 pub known_at : {ds xs : List Effect} → ds ≡ xs → Known ds → Known xs
 known_at {ds = ds} {xs = xs} p h = let P : List Effect → Type 0 = λ x. Known x in subst P p h
 
--- the points that an attempt reached: `points`, and Written before them if the attempt read a key (the first bool)
+-- the points of an attempt: `points`, and before them Written if the attempt read a key (the first bool)
 abbrev pub with_written : Bool → Bool → List PointReached → List PointReached
 with_written true wiped points = reached Written wiped ∷ points
 with_written false wiped points = points

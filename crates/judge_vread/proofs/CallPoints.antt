@@ -110,8 +110,8 @@ which_reached keyed w1 w2 w3 w4 all ps is following act = ap (λ x. is_reached x
 
 -- ---- if the wipes conform (`WipesConform`), they are those that the code assumes
 
--- at each point that the first attempt reached, the state is wiped (`w1` to `w4`) exactly if one of `acts` wipes it
--- there
+-- for each point that the first attempt reached: the state is wiped there (`w1` to `w4`) exactly if one of `acts` wipes
+-- it there
 pub record AsInferred (acts : List BoundAct) (keyed w1 w2 w3 w4 : Bool) : Type 0 where
   pub start : w1 ≡ is_wiped acts Start
   pub written : keyed ≡ true → is_wiped acts Written ≡ w2

@@ -44,8 +44,7 @@ fit_after c [] rest fit = fit
 fit_after c (d ∷ front) rest fit = fit_after c front rest fit.1
 
 module _ (cf : LaneFacts) (set : Setting) (n flags : ℕ) where
-  -- `o` is a result of the code: its answer and bytes are those of `ending`, its state is `state`, and its reached
-  -- points are `r`
+  -- `o` is a result of the code: it has the answer and bytes of `ending`, the state `state`, and the reached points `r`
   pub record Follows (o : Option Followed) (ending : Ending) (state : VgetrandomState) (r : Reached) : Type 0 where
     pub f : Followed
     pub is : o ≡ Some f

@@ -41,8 +41,8 @@ module _ (cf : LaneFacts) (set : Setting) (n flags : ℕ) (first : Sign) where
   abbrev ds : (seen : List SeenStep) → Shape set.cpu seen → List Effect
   ds seen sh = effects_in set.cpu seen sh
 
-  -- some steps of the call's host (what gives it generations and system calls) lead to the result of `f`, and `effects`
-  -- show these steps
+  -- the host of a call gives it generations and system calls. Some steps of this host lead to the result of `f`, and
+  -- `effects` show these steps
   pub record CallInferred (Leads : List HostStep → Outcome → Type 0) (Points : List PointReached → Type 0) (r : Reached)
       (effects : List Effect) (f : Followed) : Type 0 where
     pub steps : List HostStep

@@ -10,7 +10,8 @@ use Rattle.judge_vread.specs.declared.inside.Inside.{Inside}
 use Rattle.judge_vread.specs.declared.inside.Reached.{Reached}
 use Rattle.judge_vread.specs.declared.inside.Reached.TheVariants.{Nothing, AllButWritten, All}
 
--- what these acts do to the state: whether there are any, and at which points of the first attempt one of them wipes it
+-- what these acts do to the state: whether there are any acts, and at which points of the first attempt an act wipes
+-- the state
 abbrev pub inside_of : List BoundAct → Inside
 inside_of acts = record {
   any = not (length acts == 0);
@@ -29,7 +30,8 @@ points_in All = Start ∷ Written ∷ Serve ∷ End ∷ []
 abbrev pub includes : Reached → Point → Bool
 includes reached point = list_any (λ p. is_same_point p point) (points_in reached)
 
--- the points that an attempt reached; the bool is true if it read a key, and only then is Written one of them
+-- the points that an attempt reached. The bool is true if the attempt read a key; only then did the attempt reach
+-- Written
 abbrev pub reached_by : Bool → Reached
 reached_by true = All
 reached_by false = AllButWritten

@@ -45,8 +45,8 @@ meaning_of before effects acts entries f = record {
   after = with_state before f.state;
 }
 
--- if each visit has the inferred entry, and the steps `seen` can be followed with the result `f`, they are a vread with
--- the meaning made from `f` and some entries of its state's list
+-- if each visit has the inferred entry, and the steps `seen` can be followed with the result `f`, the steps are a
+-- vread. Its meaning is made from `f` and some entries of its state's list
 abbrev pub FollowedIsVread : Type 0
 FollowedIsVread = (c : LaneFacts) (n flags : ℕ) (acts : List BoundAct) (before : CallerState) (effects : List Effect)
     (seen : List SeenStep) (f : Followed) (ms : List LineMeaning) → AllSeen before.setting.cpu seen effects →
@@ -55,7 +55,7 @@ FollowedIsVread = (c : LaneFacts) (n flags : ℕ) (acts : List BoundAct) (before
     ActsMean before.setting (λ act. includes f.path.reached act.point) acts ms →
     (entries : List VEntry) × VreadMeans n flags acts (meaning_of before effects ms entries f)
 
--- the vread can be followed over `seen`, and the result has the answer, bytes and state of its meaning `m`
+-- the vread can be followed over `seen`, and the result has the answer, bytes and state of the vread's meaning `m`
 pub record IsFollowed (n flags : ℕ) (acts : List BoundAct) (m : CallMeaning) (seen : List SeenStep) : Type 0 where
   pub f : Followed
   pub is : followed n flags (inside_of acts) (current_state m.before) seen ≡ Some f

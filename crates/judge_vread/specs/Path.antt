@@ -83,7 +83,7 @@ attempted inside n c s _ = None
 
 -- ---- a whole vgetrandom call
 
--- the result of a vgetrandom call, and the state after it
+-- the result of a vread, and the state after it
 pub record Followed : Type 0 where
   pub path : VreadPath
   pub state : VgetrandomState
@@ -91,13 +91,13 @@ pub record Followed : Type 0 where
 abbrev pub leaving : VgetrandomState → Option VreadPath → Option Followed
 leaving s o = option_map (λ path. record { path = path; state = s }) o
 
--- the result of a vgetrandom call that serves the bytes of the recipe; none if steps are left
+-- the result of a vread that serves the bytes of the recipe; none if steps are left
 abbrev pub at_end : Recipe → Reached → List SeenStep → Option VreadPath
 at_end recipe reached [] = Some (record { answer = Done; served = recipe; reached = reached })
 at_end recipe reached _ = None
 
--- the result of a vgetrandom call that a system call answers; the system call is for all n bytes, and has the same
--- flags
+-- the result of a vgetrandom call that is answered by a system call for all n bytes, with the same flags; none if the
+-- steps are not those of this system call
 abbrev pub by_system : ℕ → ℕ → Reached → List SeenStep → Option VreadPath
 by_system n flags reached seen =
     option_map (λ c. record { answer = c.answer; served = c.served; reached = reached }) (called n flags seen)

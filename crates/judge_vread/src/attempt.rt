@@ -9,8 +9,8 @@ use crate::served::Served;
 use chacha_blocks::derive_key;
 use vdso_state::VState;
 
-/// The result of an attempt: the bytes that it copied, whether it read a key, whether the state has the generation that
-/// is published at the attempt's end, and the key's next block.
+/// The result of an attempt: the bytes that it copied, whether it read a key, whether at its end the state has the
+/// published generation, and the key's next block.
 #[derive(Drop)]
 pub struct AttemptResult {
     pub served: Served,

@@ -13,8 +13,7 @@ use crate::system_call::system_call;
 use key_names::{Answer, flags};
 use vdso_state::VState;
 
-/// The result of a vgetrandom call: its answer, the bytes that it served, and the points that its first attempt
-/// reached.
+/// The result of a `vread`: its answer, the bytes that it served, and the points that its first attempt reached.
 #[derive(Drop)]
 pub struct VreadPath {
     pub answer: Answer,
@@ -159,8 +158,8 @@ fn copy_or_call(
 }
 
 /// Follows a `vread` of `len` bytes, at most 2^20, with these flags, over the seen steps of its line. Returns the
-/// result, and changes the caller's current state as the call does. If the steps are not those of such a call on this
-/// state, returns `None` and leaves the state unspecified.
+/// result, and changes the caller's current state as the `vread` does. If the steps are not those of such a `vread` on
+/// this state, returns `None` and leaves the state unspecified.
 pub fn follow(
     st: &mut VState,
     len: u32,

@@ -35,7 +35,8 @@ pub fn called_says()
     ensures { CalledSays }
 {}
 
-/// If an act is appended to a list of acts, what the list does to the state changes as `Inside::add` changes it.
+/// If an act is appended to a list of acts, `Inside::add` changes what the list does to the state into what the longer
+/// list does.
 #[tactic(auto, using(crate::proofs::Vreads::act_joins))]
 pub fn act_joins()
     ensures { ActJoins }

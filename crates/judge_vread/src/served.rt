@@ -11,7 +11,7 @@ use vdso_state::state::Passed;
 /// The bytes are made in pieces of this length.
 const PIECE_BYTES: usize = 4096;
 
-/// Up to this many bytes are made in one shorter piece.
+/// At most this many bytes are made in one piece, in a shorter buffer.
 const SHORT_BYTES: usize = 512;
 
 /// A recipe for the bytes of a read. There are fewer than 2^32 bytes, and at most the first 96 of them exist already.
@@ -161,8 +161,8 @@ fn are_same(a: &[u8], b: &[u8]) -> bool
     a == b
 }
 
-/// Appends `len` bytes of the key's keystream to `out`, from position `from` on. The bytes are made in a buffer. The
-/// buffer is cleared for each read, so it is no longer than needed.
+/// Appends `len` bytes of the key's keystream to `out`, from position `from` on. The bytes are made in a buffer. For
+/// few bytes the buffer is shorter, since it is cleared for each read.
 fn put_key(key: &[u8; 32], from: u64, len: usize, out: &mut Vec<u8>) -> Result<(), AllocError>
     requires { from + len < 2 ^ 40 }
     ensures made { IfOk result (λ _. out.new.items ≡ out.old.items ++ keystream key.now from len) }

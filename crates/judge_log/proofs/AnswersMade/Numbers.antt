@@ -116,8 +116,8 @@ each_number P c n waiting (event ∷ events) (line ∷ lines) fit wait above = (
   each_number P c (suc n) waiting events lines fit.1 wait (λ k high. above k (omega arith)),
 )
 
--- if a single event's line has number `n`, and the numbers in the calls after it are distinct, all these numbers with
--- `n` are distinct
+-- if a single event's line has number `n`, and the numbers in the calls after it are distinct, then `n` and these
+-- numbers together are distinct
 one_first : (c n : ℕ) (waiting : List BoundAct) (events : List Event) (lines : List SeenLine) (line : SeenLine) →
     line.event ≡ n → LinesFit c (suc n) events lines → Waits n waiting →
     Distinct (numbers (calls_from waiting events lines)) → Distinct (line.event ∷ numbers (calls_from waiting events lines))

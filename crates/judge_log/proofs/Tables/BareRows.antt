@@ -28,8 +28,7 @@ module _ {T : Type 0} where
   abbrev pub items_of : List (Vec T Global) → List (List T)
   items_of vecs = map (λ (v : Vec T Global). v.items) vecs
 
-  -- if all vectors in `vecs` are without rows and `v`, also without rows, is appended, all vectors are still without
-  -- rows
+  -- if all vectors in `vecs` have no rows, and a vector `v` without rows is appended, all vectors still have no rows
   pub bare_more : (vecs : List (Vec T Global)) (v : Vec T Global) → v.items ≡ [] →
       ((c : ℕ) → list_at (items_of vecs) c ≡ []) → (c : ℕ) → list_at (items_of (vecs ++ v ∷ [])) c ≡ []
   bare_more [] v none bare zero = none
@@ -52,8 +51,8 @@ module _ {T : Type 0} where
   lane_kept (x ∷ vecs) (suc c) zero v other = refl
   lane_kept (x ∷ vecs) (suc c) (suc d) v other = lane_kept vecs c d v (λ e. other (ap suc e))
 
--- let `of` be the mark at index `i`. After it, its own lane has one mark fewer left than before it, and each other lane
--- has as many
+-- let `of` be the mark at index `i`. From index `i + 1` on, the lane of `of` has one mark fewer than from `i` on; each
+-- other lane has as many as from `i` on
 pub marks_left : (lane : LaneId) (marks : List MarkOf) (i : ℕ) (of : MarkOf) → slice_get marks i ≡ Some of →
     length (lane_marks lane (map seen_mark (drop i marks)))
     ≡ (if is_same_lane of.mark.lane lane then suc (length (lane_marks lane (map seen_mark (drop (suc i) marks))))
@@ -77,7 +76,7 @@ set_long [] c v = refl
 set_long (x ∷ vecs) zero v = refl
 set_long (x ∷ vecs) (suc c) v = ap suc (set_long vecs c v)
 
--- the tables with `pool` and `base` as they are given, and with the rows of the CPUs from the vectors `vecs`
+-- the tables with the rows `pool` and `base`, and for the CPUs the rows of the vectors `vecs`
 abbrev pub with_lanes : List InferredPool → List BaseInferred → List (Vec InferredCpu Global) → Tables
 with_lanes pool base vecs = record { pool = pool; base = base; cpus = items_of vecs }
 
@@ -116,8 +115,8 @@ cpu_row_put pool base vecs c v spot mark low is lane_is put =
     (sym (lane_set vecs c v low)) put)
     (λ d other. lane_kept vecs c d v other) (set_long vecs c v) refl refl
 
--- if the mark at index `i` is passed and its lane gets a row, each lane's rows and its marks that are left have the
--- same sum as before
+-- suppose that the mark at index `i` is passed, and its lane gets a row. Then for each lane the sum of its rows and of
+-- its marks that are left does not change
 pub rows_and_left : (lane : LaneId) (marks : List MarkOf) (i : ℕ) (d : MarkOf) (old new : Tables) (n : ℕ) →
     i < length marks → IsLonger (get_or marks i d).mark.lane old new →
     rows_in old lane + length (lane_marks lane (map seen_mark (drop i marks))) ≡ n →

@@ -165,8 +165,8 @@ module _ (lists : Lists) (lawful : LawfulLanes lists) where
       CallsForm lists set calls
   caller_form set calls ms means = calls_form (caller_start set) set calls ms refl means.effects means.follows
 
--- if P holds of each caller with its elements of `xs` and `ys`, P holds of caller `n` with its element of `xs` and some
--- `y`
+-- if P holds of each caller, with the caller's elements of `xs` and `ys`, then P holds of caller `n`, with its element
+-- of `xs` and some `y`
 each_caller_at : {A B : Type 0} (P : ℕ → List A → B → Type 0) (c : ℕ) (xs : List (List A)) (ys : List B) →
     EachCaller P c xs ys → (i n : ℕ) → i < length xs → c + i ≡ n → (y : B) × P n (list_at xs i) y
 each_caller_at P c [] ys each i n lt at = absurd (omega arith)

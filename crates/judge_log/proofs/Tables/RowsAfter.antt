@@ -59,7 +59,7 @@ module _ (inferred : Tables) (lists : Lists) where
         go None at = tt
         go (Some e) at = record { row_is = row; entry_is = at }
 
-    -- if the lists have an entry at the place that a step visits, the visible part of the step is that of the visit
+    -- if the lists have an entry at the place that a step visits, the step and the visit have the same visible part
     lane_shown : (lane : LaneId) (place : ℕ) → IsThere (effect_at lists lane place) →
         lane_sign lane place ≡ sign_of (effect_at lists lane place)
     lane_shown PoolLane place = go (slice_get lists.pool place)

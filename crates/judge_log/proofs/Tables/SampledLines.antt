@@ -120,8 +120,8 @@ module _ (t : List (List SeenLine)) (book : Book) (apart : Apart t) (visits : Vi
             (mix_at t book fast (fast_is book) apart visits places line f.mix who f.text f.bits here
             (there (at_pool f.mix) (inr (inr (inl refl)))) refl refl f.mixes)
 
-        -- let a visit `v` of a line with a dump make a dump due at a place before this dump. Then `v` is the line's
-        -- sample
+        -- in a line with a dump, let the visit `v` make a dump due at a place before the dump's place. Then `v` is the
+        -- line's sample
         at_sample : (v : CpuVisit) → v.place < f.dump.place → MakesDue (fast v.cpu v.place) v.entry →
             IsIn (at_cpu v) (at_cpu f.sample ∷ at_cpu f.dump ∷ at_pool f.mix ∷ f.rest) →
             MakesDue (fast f.sample.cpu f.sample.place) f.sample.entry × (f.sample.place < f.dump.place)

@@ -78,8 +78,8 @@ row_if : (b : Bool) (spot : Spot) (old new : Tables) (lane : LaneId) (place : �
 row_if true spot old new lane place put same = put refl
 row_if false spot old new lane place put same = same refl
 
--- if `new` has the spot's row at the place that the spot visits, and all other rows of `old`, the tables change by this
--- row
+-- if `new` has the spot's row at the place that the spot visits, and the rows of `old` at all other places, the tables
+-- change by this row
 pub one_row : (spot : Spot) (old new : Tables) → length new.cpus ≡ length old.cpus →
     ((lane : LaneId) → rows_in new lane ≡ rows_in old lane) →
     ((lane : LaneId) (place : ℕ) → is_visit lane place spot.step ≡ true → place < rows_in old lane →

@@ -1,5 +1,5 @@
--- One round of each loop that puts rows into tables: it puts the rows of one element, and later rounds those of the
--- elements after it.
+-- Loops that put rows into tables: one round of a loop puts the rows of one element, and the later rounds put the rows
+-- of the elements after it.
 use Rattle.std.proofs.Common.{◌≡◌, ℕ, ◌+◌, ◌<◌, ◌≤◌, List, [], ◌∷◌, ◌++◌, length, drop, get_or, map, min, refl, sym, subst, ◌∙◌, arith, ◌⊎◌, inl, inr}
 use Rattle.std.proofs.Math.Nat.{min-eq_left, min-eq_right}
 use Rattle.std.specs.Global.{Vec}
@@ -26,7 +26,7 @@ abbrev pub spot_at : CallSetting → (Neighbours → Telling) → Sign → Neigh
 spot_at set tell first neighbours step =
     record { set = set; tells = tell neighbours; first = first; neighbours = neighbours; step = step }
 
--- if the row of step `n` is put, and then the rows of the later steps, the rows of all steps from `n` on are put
+-- putting the row of step `n`, and then the rows of the later steps, puts the rows of all steps from `n` on
 pub line_more : (set : CallSetting) (tell : Neighbours → Telling) (first a b following s : Sign) (steps : List Step) (n : ℕ)
     (d : Step) (x y z : Tables) → n < length steps → following ≡ first_shown (drop (n + 1) steps) →
     s ≡ step_sign (get_or steps n d) →
