@@ -196,8 +196,8 @@ module _ (kept : KeptLists) (lists : Lists) (keeps : Keeps kept lists) where
       by [] (k ∷ ks) long each = absurd (omega arith)
       by (e ∷ es) ks long each = reseeds_from ks (e ∷ es) base_start 0 long each (omega arith)
 
-  -- let `orders` have each caller's steps in order. The looks in them are lawful by the kept data exactly if they are
-  -- lawful in the lists
+  -- let `orders` have each caller's steps in order. The looks in these steps are lawful by the kept data exactly if the
+  -- looks are lawful in the lists
   pub looks_conform : (reseeds : ℕ) → reseeds ≡ reseeds_in kept.base.items → (orders : List (List Step)) →
       AllByRecursion (Along (seen_past kept) (MayLook reseeds) None) orders
       ↔ AllByRecursion (λ order. LooksConform (base_after lists.base).generation [] (effects_of lists order)) orders

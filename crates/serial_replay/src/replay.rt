@@ -41,7 +41,7 @@ fn push_line(lines: &mut CallerLines, line: LineView<'_>) -> Result<(), AllocErr
     Ok(())
 }
 
-// Replaces the content of the buffer by the bytes of the data in `said`.
+// Makes the bytes of the data of `said` in the buffer, in place of the buffer's old content.
 fn put_bytes(buffer: &mut Vec<u8>, said: &MadeLine) -> Result<(), AllocError>
     ensures bytes { OnOk result (buffer.new.items ≡ bytes_said said.now.shows) }
     ensures short { OnOk result (length buffer.new.items < 2 ^ 32) }
@@ -53,7 +53,7 @@ fn put_bytes(buffer: &mut Vec<u8>, said: &MadeLine) -> Result<(), AllocError>
     }
 }
 
-// The data in `said`; if they are bytes, they are `bytes`.
+// The data of `said`. If these data are bytes, `bytes` has them, already made.
 fn shown_as<'a>(said: &MadeLine, bytes: &'a [u8]) -> Shown<'a>
     requires bytes { bytes.now ≡ bytes_said said.now.shows }
     requires short { length bytes.now < 2 ^ 32 }
