@@ -25,7 +25,7 @@
 //! # Proved
 //!
 //! - [`run`]: the main theorem. For every input, every interleaving of callers and every command, it states the meaning
-//!   of status and output. docs/TRUST.md has a row for each clause.
+//!   of status and output. docs/TRUST.md has a row for each clause of this contract.
 //! - [`run_gathered`]: the statements of `run` about status and source, for the program's buffered output.
 //!
 //! # Tested only

@@ -1,4 +1,4 @@
-//! The message on standard error for a run that did not end well. No function here has a clause: all of it is only
+//! The message on standard error for a run that did not end well. No function here has a contract, so all of it is only
 //! tested.
 
 use crate::command::USAGE;

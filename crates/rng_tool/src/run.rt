@@ -48,8 +48,8 @@ use tool_ends::{Status, end_output};
 ///   the transcript is lawful for the script, and `no K` if clause K is the first that fails. A fault of the script is
 ///   answered as by `run`. No thread is started.
 /// - `replay`: the input is as for `check`. The output is the one lawful transcript with the input's lines, words and
-///   steps, whatever answers and data the input has. The output is `no K` if the text is not the text of a transcript
-///   (clause 1), or if one of the clauses on lines, marks, forms and looks fails: clause K is the first of these.
+///   steps, whatever answers and data the input has. The output is `no 1` if the text is not the text of a transcript.
+///   It is `no K` if clause K is the first that fails among the clauses on lines, marks, forms and looks.
 /// - `load START CALLERS EVENTS`: 1 to 64 callers run the script of a load, with 1 to 1,000 calls each, and their
 ///   transcript is checked. One line sums it up: `callers CALLERS events V bytes B check yes`, with V events in the
 ///   script and B bytes of data in the transcript.

@@ -39,7 +39,7 @@ pub record CallersConform (script : Script) (t : List (List SeenLine)) (callers 
   pub calls : callers ≡ script_calls script t
   pub found : AreSettings callers settings
 
--- in `lists`, the calls have some lawful meanings, if the first call begins with the setting `set`
+-- if the first call begins with the setting `set`, the calls have some lawful meanings in `lists`
 pub record MeansSome (lists : Lists) (set : Setting) (calls : List Call) : Type 0 where
   pub ms : List CallMeaning
   pub means : CallerMeans lists set calls ms

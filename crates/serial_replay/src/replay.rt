@@ -41,7 +41,7 @@ fn push_line(lines: &mut CallerLines, line: LineView<'_>) -> Result<(), AllocErr
     Ok(())
 }
 
-// Makes the bytes of the data of `said` in the buffer, in place of the buffer's old content.
+// Replaces the content of the buffer by the bytes of the data in `said`.
 fn put_bytes(buffer: &mut Vec<u8>, said: &MadeLine) -> Result<(), AllocError>
     ensures bytes { OnOk result (buffer.new.items ≡ bytes_said said.now.shows) }
     ensures short { OnOk result (length buffer.new.items < 2 ^ 32) }

@@ -31,7 +31,7 @@ pub record HasOther (IsSaid : SeenLine → MadeLine → Type 0) (script : Script
   pub says : AllMade itself script (map (map bare) t) made
   pub other : IsOtherAt IsSaid (list_at (made_by made) caller) (list_at t caller) number
 
--- in each lawful transcript with the steps of `t`, this caller has another line with this number than in `t`, or none
+-- each lawful transcript with the steps of `t` differs from `t` in this caller's line with this number
 abbrev pub IsReplacedIn : Script → List (List SeenLine) → ℕ → ℕ → Type 0
 IsReplacedIn script t caller number = (u : List (List SeenLine)) → SameSteps t u → IsTranscript script u →
     slice_get (list_at t caller) number ≢ slice_get (list_at u caller) number

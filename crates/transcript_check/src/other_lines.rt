@@ -81,7 +81,7 @@ fn first_of_caller<P: SaidPart>(part: &P, lines: &CallerLines, said: &[MadeLine]
     None
 }
 
-// The answer or data that was expected: it was made from the line's steps.
+// What was expected for this part of a line: the answer or data made from the line's steps.
 fn expected_of<P: SaidPart>(
     alloc: Global,
     part: &P,

@@ -14,8 +14,8 @@ pub record HasMoreLines (most : ℕ) (text : List ℕ) : Type 0 where
   pub is_text : IsTranscriptText text callers
   pub many : most < length (all_lines callers)
 
--- the result of reading `text` is right. It is the transcript with this text, if this has at most `most` lines; the
--- first faulty line; the error that the transcript has more lines; or the error that memory ran out
+-- the result of reading `text` is right. It is the transcript with this text, which has at most `most` lines; or the
+-- first faulty line; or the error that the transcript has more lines; or the error that memory ran out
 abbrev pub Answers : ℕ → List ℕ → Result (List (List SeenLine)) TextError → Type 0
 Answers most text (Ok callers) = IsTranscriptText text callers × (length (all_lines callers) ≤ most)
 Answers most text (Err (Fault line)) = IsFirstFault text line

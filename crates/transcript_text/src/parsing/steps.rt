@@ -66,7 +66,7 @@ fn step_front(text: &[u8]) -> Option<(Step, &[u8])>
     }
 }
 
-/// The steps that a text spells. A dash spells no steps; other texts spell at most 20, with commas between them. The
+/// The steps that a text spells: no steps if the text is a dash, otherwise at most 20 with commas between them. The
 /// steps replace the content of `trace`.
 pub(crate) fn steps_of<'t>(text: &[u8], trace: &'t mut Trace) -> Option<&'t [Step]>
     ensures { Reads steps_text StepsFit text.now (option_map (λ steps. steps.now) result) }
