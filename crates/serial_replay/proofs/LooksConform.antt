@@ -56,8 +56,8 @@ at_place : {K E : Type 0} (S : ℕ → K → E → Type 0) (kept : List K) (list
     AtPlace S kept i (slice_get list i)
 at_place S kept list i all = kept_there S kept list i all.count (all.each i)
 
--- if `S` holds of each lane's kept data with the lane's entries, and of two empty lists, `S` holds of the kept data and
--- the entries at any lane number `c`
+-- let `S` hold of two empty lists, and of each lane's kept data with the lane's entries. Then `S` holds of the kept
+-- data and the entries at any lane number `c`
 lane_there : {K E : Type 0} (kept : List (List K)) (lists : List (List E)) (c : ℕ) (o : Option (List E)) →
     slice_get lists c ≡ o → length kept ≡ length lists → (S : ℕ → List K → List E → Type 0) →
     AtPlace S kept c o → S c [] [] → S c (list_at kept c) (list_at lists c)
