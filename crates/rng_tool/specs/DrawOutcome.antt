@@ -28,8 +28,8 @@ draw_line None = codes "spent" ++ 10 ∷ []
 abbrev pub draw_text : List (Option ℕ) → List ℕ
 draw_text draws = flat_map draw_line draws
 
--- the output has the lines of `count` draws below `bound`. The words of these draws, and nothing else, were read from a
--- new table
+-- the output has a line for each of `count` draws below `bound`; a spent draw is the last, even if fewer were made. The
+-- words of these draws, and nothing else, were read from a new table
 pub record DrawOf (bound count : ℕ) (output : List ℕ) : Type 0 where
   pub draws : List (Option ℕ)
   pub drawn : AreTableDraws bound count draws
