@@ -27,8 +27,8 @@ not_judge_refused script text output short is refusal =
     not_refused script (front text) output is
     (record { fault = refusal.fault; first = sym same ∙ refusal.first; line = refusal.line })
 
--- `status` is the status before the flush at the end of the output, `result` the one after it. If `result` is a read
--- fault, `status` was one too
+-- `status` is the status before the flush at the end of the output, and `result` is the status after it. If `result` is
+-- a read fault, `status` is a read fault too
 pub read_before : (status result : Status) (m n : ℕ) → AtOutputEnd status result m n → result ≡ ReadFault
     → status ≡ ReadFault
 read_before status result m n ended is = elim ended [

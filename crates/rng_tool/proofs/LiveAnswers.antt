@@ -44,8 +44,8 @@ module _ (left left_after held now after : Option (List ℕ)) (text emitted line
   refuses : EmittedRefusal left left_after text (emitted ++ line)
   refuses = record { emitted = emitted; line = line; all = all; refusal = refusal; output_is = refl }
 
--- after a session was refused, the line of the refusal is written or the sink fails; in both cases the session ends as
--- `LiveEnds` states
+-- if a session refuses its script, the line of the refusal is written, or the sink fails. In both cases the session
+-- ends as `LiveEnds` states
 refused_by : (left left_after held now after : Option (List ℕ)) (result : Status) (line wanted : List ℕ)
     (Is : List ℕ → List ℕ → Type 0) → (t : Emitted Is left left_after held now)
     → ((text emitted : List ℕ) → Is text emitted → EmittedAll text emitted × RefusesBy left left_after text wanted)

@@ -223,8 +223,7 @@ module _ (text line : List ℕ) (clean : IsPart line) where
 
   -- ---- a line after which no script of one caller is possible
 
-  -- if no script of one caller begins with `text` and `line`, none begins with `front` and one or more whole lines
-  -- after it
+  -- if no script of one caller begins with `text` and `line`, none begins with `front` and then one or more whole lines
   last_now : (front rest more : List ℕ) → text ≡ front ++ rest → IsPart rest ⊎ IsStuck front rest
       → ((s : Script) (later : List ℕ) → IsScript s (lined_up text line ++ later) → IsEmittedByOne s → ⊥)
       → IsLast front (rest ++ (line ++ 10 ∷ more))

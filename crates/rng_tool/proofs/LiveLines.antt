@@ -384,8 +384,8 @@ module _ (text : List ℕ) (d other : Draft) (e : Event) (n m : ℕ) (lone : IsL
   pub forks_or_acts : has_orphan other ≡ true → IsEmittedOnce e → ⊥
   forks_or_acts orphan once = forks orphan (emitted_unforked e once)
 
--- if a script of one caller, who forks nobody and acts inside no vgetrandom call, begins with `text`, whose last event
--- is `e`, then `e` is no act and no fork
+-- let `e` be the last event of `text`. If a script of one caller begins with `text`, and the caller forks nobody and
+-- acts inside no vgetrandom call, `e` is no act and no fork
 pub event_dooms : (text more : List ℕ) (d : Draft) (e : Event) (n : ℕ) (s : Script)
     → GoesOnFrom text (with_event d e) n → IsScript s (text ++ more) → IsEmittedByOne s → IsEmittedOnce e
 event_dooms text more d e n s goes is one =

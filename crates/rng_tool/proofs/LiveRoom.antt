@@ -51,8 +51,7 @@ end_clean =
     All-cons (λ x. (x == 10) ≡ false) 101 (110 ∷ 100 ∷ []) refl
     (All-cons (λ x. (x == 10) ≡ false) 110 (100 ∷ []) refl (All-cons (λ x. (x == 10) ≡ false) 100 [] refl no_bytes))
 
--- let whole lines end with `mid`, and let the line `end` begin with `mid`, which is not empty. Then `mid` is all of
--- this line
+-- if whole lines end with `mid`, and the line `end` begins with `mid`, then `mid` is empty or the whole line `end`
 all_there : (front mid more body : List ℕ) → front ++ 10 ∷ [] ≡ body ++ mid → mid ++ more ≡ end_line → 0 < length mid
     → more ≡ []
 all_there front mid more body is end some =

@@ -174,8 +174,8 @@ stops_reading (Ok u) stop left left_after start held text s is takes stops = abs
 stops_reading (Err x) stop left left_after start held text s is takes stops =
     subst (λ y. SessionReads (Err y) left left_after start held s) (sym is) (text, takes, stops)
 
--- if `text` and then `piece` were taken from a source, and together have at most one byte more than a script may have,
--- `TakesText` holds of `text ++ piece`
+-- let `text` and then `piece` be taken from a source. If they have together at most one byte more than a script may
+-- have, `TakesText` holds of `text ++ piece`
 pub more_taken : (left now after : Option (List ℕ)) (text piece : List ℕ) → Consumes left now text → Consumes now after piece
     → length (text ++ piece) ≤ 16777217 → TakesText left after (text ++ piece)
 more_taken left now after text piece before read few =

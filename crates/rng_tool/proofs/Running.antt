@@ -1,5 +1,5 @@
--- If an output is right for a script, it is right for the script's text as the input. If it is right for the reason why
--- an input is no script, it is right for this input.
+-- If an output is right for a script, it is right for the input that is the script's text. If an input is no script,
+-- and an output is right for the reason, the output is right for this input.
 use Rattle.std.proofs.Common.{ℕ, List, sym, subst}
 use Rattle.key_names.specs.Texts.ScriptGrammar.{Script, IsScript}
 use Rattle.tool_ends.specs.Pairs.{IsNoScript, RefusalOf}

@@ -123,8 +123,8 @@ next_line lines line =
     (flat_map-append whole_line lines (line ∷ []) ∙ ap (λ (t : List ℕ). text_of lines ++ t) (append-nil (whole_line line)))
     ∙ sym (append_assoc (codes "rngtranscript 1\n") (text_of lines) (whole_line line))
 
--- if the first lines of a transcript were written, and then one more line, the lines with that line were written; if
--- the write of that line failed, a prefix of them was written
+-- suppose that the first lines of a transcript were written. If the next line was written too, all these lines were
+-- written; if its write failed, a prefix of them was written
 pub wrote_line : {shown : SeenLine} (w v : Result (Unit {0}) Failed) (a b c : Known) (f g h : ℕ) (lines : List SeenLine)
     (line : SeenLine) → is_ok w ≡ true → Wrote w a b f g (text_so_far lines) → shown ≡ line →
     OnOk v (Appends b c (whole_line shown)) → AppendsPrefix b c (whole_line shown) → OnErr v (Rose g h) →

@@ -13,7 +13,7 @@ use Rattle.rng_tool.specs.declared.command.Command.{Command}
 use Rattle.rng_tool.specs.declared.judge.Judge.{Judge}
 use Rattle.rng_tool.specs.declared.command.Command.TheVariants.{Run, Live, Judge as Judges, Load, Draw, Vfork, Feed}
 
--- the words are those that name this command
+-- the words of the command line name this command
 abbrev pub Asks : {A : Type 0} → List (String A) → Command → Type 0
 Asks words Run = IsRun words
 Asks words Live = IsLive words
@@ -33,6 +33,6 @@ pub record IsNoForm {A : Type 0} (words : List (String A)) : Type 0 where
   pub no_vfork : (point : Point) (attempt : Turn) (n : ℕ) → IsVfork words point attempt n → ⊥
   pub no_feed : (start feeders samples : ℕ) → IsFeed words start feeders samples → ⊥
 
--- the words are a form of a command that reads the input
+-- the words name a command that reads the input
 abbrev pub TakesInput : {A : Type 0} → List (String A) → Type 0
 TakesInput words = IsRun words ⊎ IsLive words ⊎ (judge : Judge) × IsJudge words judge

@@ -16,11 +16,11 @@ pub record AskDraw (texts : List (List ℕ)) (bound count : ℕ) : Type 0 where
 pub record IsSmallDraw (draw : DrawRequest) : Type 0 where
   pub count : (1 ≤ draw.count) × (draw.count ≤ 1000)
 
--- the words of the command line are `draw C K` with C = `bound` and K = `count`, which are in their ranges
+-- the words of the command line are `draw C K`, with C = `bound` and K = `count`; both numbers are in their ranges
 abbrev pub IsDraw : {A : Type 0} → List (String A) → ℕ → ℕ → Type 0
 IsDraw words bound count = AskDraw (map string_bytes words) bound count
 
--- the line of one draw: the number drawn, or `spent` if all of its words were rejected
+-- the line of one draw: the number drawn, or `spent` if all words of the draw were rejected
 abbrev pub draw_line : Option ℕ → List ℕ
 draw_line (Some answer) = decimal answer ++ 10 ∷ []
 draw_line None = codes "spent" ++ 10 ∷ []
@@ -28,8 +28,8 @@ draw_line None = codes "spent" ++ 10 ∷ []
 abbrev pub draw_text : List (Option ℕ) → List ℕ
 draw_text draws = flat_map draw_line draws
 
--- the output has a line for each of `count` draws below the bound; the draws' words, and nothing else, were read from
--- a new table
+-- the output has a line for each of `count` draws below `bound`; a spent draw is the last, even if fewer were made. The
+-- words of these draws, and nothing else, were read from a new table
 pub record DrawOf (bound count : ℕ) (output : List ℕ) : Type 0 where
   pub draws : List (Option ℕ)
   pub drawn : AreTableDraws bound count draws

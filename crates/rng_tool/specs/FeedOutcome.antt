@@ -18,7 +18,7 @@ pub record IsSmallFeed (feed : Feed) : Type 0 where
   pub feeders : (1 ≤ feed.feeders) × (feed.feeders ≤ 16)
   pub samples : (1 ≤ feed.samples) × (feed.samples ≤ 10000)
 
--- the words of the command line are `feed START FEEDERS SAMPLES` with these numbers, which are in their ranges
+-- the words of the command line are `feed START FEEDERS SAMPLES` with these numbers, and each number is in its range
 abbrev pub IsFeed : {A : Type 0} → List (String A) → ℕ → ℕ → ℕ → Type 0
 IsFeed words start feeders samples = AskFeed (map string_bytes words) start feeders samples
 
@@ -27,7 +27,7 @@ feed_line feeders sums =
     codes "feeders " ++ decimal feeders ++ codes " samples " ++ decimal sums.samples ++ codes " dumps "
     ++ decimal sums.dumps ++ codes " bits " ++ decimal sums.bits ++ codes "\n"
 
--- the output is the line with the sums of a run on a new table, with `feeders` feeders of `samples` samples each
+-- the output is one line: the sums of a run on a new table, in which each of `feeders` feeders has `samples` samples
 pub record FeedOf (start feeders samples : ℕ) (output : List ℕ) : Type 0 where
   pub sums : FeedSums
   pub fed : IsFed start feeders samples sums

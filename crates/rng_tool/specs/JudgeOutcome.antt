@@ -1,4 +1,4 @@
--- The outcome of `check` and `replay`, for a script and a transcript after it.
+-- The outcome of `check` and `replay`, whose input is a script and then a transcript.
 use Rattle.std.specs.Prelude.{ℕ, ◌≡◌, ◌⊎◌, ◌≤◌, List, [], ◌∷◌, ◌++◌, Option, String, string_bytes, codes, length, map}
 use Rattle.key_names.specs.Transcripts.IsTranscript.{Clause, FirstFails, clause_number}
 use Rattle.key_names.specs.Texts.ScriptFaults.{front}
@@ -24,7 +24,7 @@ pub record SaysYes (script : Script) (t : List (List SeenLine)) (output : List �
   pub sound : IsSound script t
   pub line : output ≡ yes_line
 
--- the output is the text of the only lawful transcript that has the steps of t
+-- the output is the text of the only lawful transcript that has the steps of `t`
 pub record GivesBack (script : Script) (t : List (List SeenLine)) (output : List ℕ) : Type 0 where
   pub made : List (List SeenLine)
   pub is : IsTheTranscript script t made
@@ -34,7 +34,7 @@ abbrev pub Says : Judge → Script → List (List SeenLine) → List ℕ → Typ
 Says Check = SaysYes
 Says Replay = GivesBack
 
--- the clause is the first that fails: for `check` among all clauses, for `replay` among those on lines, marks, forms
+-- the clause is the first that fails. `check` judges all clauses, and `replay` only the clauses on lines, marks, forms
 -- and looks
 abbrev pub Fails : Judge → Script → List (List SeenLine) → Clause → Type 0
 Fails Check = FirstFails
@@ -42,15 +42,15 @@ Fails Replay = StepsFail
 
 -- ---- the right outputs for an input
 
--- the input is a script with a transcript after it, and the output is right for this script and this transcript
+-- the input is a script and then a transcript, and the output is right for these two
 pub record JudgeAnswer (judge : Judge) (input output : List ℕ) : Type 0 where
   pub script : Script
   pub lines : List (List SeenLine)
   pub pair : IsPair input script lines
   pub says : Says judge script lines output
 
--- the number is 1, and `text` is not the text of a transcript; or `text` is that of a transcript, and the number is
--- that of the clause that fails first
+-- either the number is 1, and `text` is not the text of a transcript; or `text` is the text of a transcript, and the
+-- number is the number of the first clause that fails
 abbrev pub IsClause : Judge → Script → List ℕ → ℕ → Type 0
 IsClause judge script text number =
     (number ≡ 1) × IsNoTranscript text
@@ -85,8 +85,8 @@ JudgeCalls judge input ReadFault output = ⊥
 JudgeCalls judge input WriteFault output = ⊥
 JudgeCalls judge input NoMemory output = ⊥
 
--- how the command ends: its status, the rest of the source before and after, and the content of the sink before and
--- after
+-- how the command ends: its status, the bytes left in the source before and after it, and the content of the sink
+-- before and after it
 abbrev pub JudgeEnds : Judge → Status → Option (List ℕ) → Option (List ℕ) → Option (List ℕ) → Option (List ℕ) → Type 0
 JudgeEnds judge = ReadsEnds most_input (JudgeCalls judge)
 

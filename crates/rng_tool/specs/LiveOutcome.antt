@@ -1,4 +1,4 @@
--- The outcome of a session, in which a script of one caller is run while it is read.
+-- The outcome of a session, which runs a script of one caller while the script is read.
 use Rattle.std.specs.Prelude.{ℕ, ◌≡◌, ◌⊎◌, ◌+◌, ◌≤◌, List, [], ◌∷◌, ◌++◌, Option, Some, String, string_bytes, codes, decimal, length, map}
 use Rattle.std.specs.Io.KnownBytes.{Appends, Consumes, IsAtEnd}
 use Rattle.io_edges.specs.Pieces.{AppendsPrefix}
@@ -20,9 +20,9 @@ use Rattle.rng_tool.specs.Outcome.{RunOf}
 
 -- ---- the output for a part of the script's text
 
--- With a line `end` after it, `text` is a script of one caller, who forks nobody and acts inside no vgetrandom call.
--- The output has a transcript's first line and the line of each event in `text`. With one more line, for the caller's
--- end, these lines are a sound transcript of that script.
+-- `text` and then a line `end` are a script of one caller, who forks nobody and acts inside no vgetrandom call. The
+-- output is a transcript's first line and the line of each event in `text`. With one more line, for the caller's end,
+-- the lines of the events are a sound transcript of this script.
 pub record EmittedSoFar (text output : List ℕ) : Type 0 where
   pub script : Script
   pub is_script : IsScript script (text ++ end_line)
@@ -32,8 +32,8 @@ pub record EmittedSoFar (text output : List ℕ) : Type 0 where
   pub sound : IsSound script ((lines ++ last ∷ []) ∷ [])
   pub emitted : output ≡ lined (codes "rngtranscript 1" ∷ map line_text lines)
 
--- `text` is a script of one caller, who forks nobody and acts inside no vgetrandom call; the output is that of a run of
--- this script
+-- `text` is a script of one caller, who forks nobody and acts inside no vgetrandom call; the output is the output of a
+-- run of this script
 pub record EmittedWhole (text output : List ℕ) : Type 0 where
   pub script : Script
   pub is_script : IsScript script text
@@ -56,7 +56,7 @@ pub record BeginsScript (text : List ℕ) : Type 0 where
   pub is_script : IsScript script (text ++ more)
   pub one : IsEmittedByOne script
 
--- events may follow the lines in `text`, and the line `end` has room after these lines
+-- events may follow the lines in `text`, and `text` with a line `end` after it is at most as long as a script may be
 pub record GoesOn (text : List ℕ) : Type 0 where
   pub draft : Draft
   pub next : ℕ
@@ -77,7 +77,8 @@ pub record EmittedFront (text output : List ℕ) : Type 0 where
   pub so_far : EmittedSoFar front output
   pub stops : (line more : List ℕ) → rest ≡ line ++ 10 ∷ more → BeginsScript (front ++ line ++ 10 ∷ []) → ⊥
 
--- a prefix of `text` is a whole script, and the output is that of a run of this script; more text may follow the prefix
+-- a prefix of `text` is a whole script, and the output is the output of a run of this script; more text may follow the
+-- prefix
 pub record EmittedScript (text output : List ℕ) : Type 0 where
   pub front : List ℕ
   pub rest : List ℕ
@@ -90,15 +91,15 @@ EmittedAll text output = EmittedNothing text output ⊎ EmittedFront text output
 
 -- ---- the lines that refuse a script
 
--- `text` has a prefix such that every text that begins with this prefix has the first fault `fault`
+-- some prefix of `text` settles the first fault: every text that begins with this prefix has the first fault `fault`
 pub record FailsInside (text : List ℕ) (fault : ScriptFault) : Type 0 where
   pub front : List ℕ
   pub rest : List ℕ
   pub parts : text ≡ front ++ rest
   pub fails : FailsWith front fault
 
--- `text` is the whole input, or the first part of a longer input: one byte more than a script may have. Its first fault
--- is `fault`
+-- `text` is the whole input; or, if the input is longer than a script may be, its first bytes, one more than a script
+-- may have. The first fault of `text` is `fault`
 pub record FailsAtEnd (left left_after : Option (List ℕ)) (text : List ℕ) (fault : ScriptFault) : Type 0 where
   pub read : WasRead most_script left left_after text
   pub first : first_fault text ≡ Some fault
@@ -113,17 +114,18 @@ pub record IsNotAlone (text : List ℕ) (number : ℕ) : Type 0 where
   pub goes : GoesOnFrom front (with_event draft event) (number + 1)
   pub not_once : IsEmittedOnce event → ⊥
 
--- the line that refuses a fork, or an act inside a vgetrandom call, at this line of the script: its kind is 13
+-- the output line that refuses a fork, or an act inside a vgetrandom call, in the script's line with this number: the
+-- kind is 13
 abbrev pub not_alone_line : ℕ → List ℕ
 not_alone_line number = lined (spaced (codes "refused" ∷ decimal number ∷ codes "13" ∷ []) ∷ [])
 
--- `line` refuses `text`: for a fault, or for a fork or an act
+-- `line` is the output line that refuses `text`: for a fault, for a fork, or for an act inside a vgetrandom call
 abbrev pub RefusesBy : Option (List ℕ) → Option (List ℕ) → List ℕ → List ℕ → Type 0
 RefusesBy left left_after text line =
     ((fault : ScriptFault) × (FailsInside text fault ⊎ FailsAtEnd left left_after text fault) × (line ≡ refusal_line fault))
     ⊎ ((number : ℕ) × IsNotAlone text number × (line ≡ not_alone_line number))
 
--- the output has the line of each event in `text`, and then the line of a refusal
+-- the output has the line of each event in `text`, and then the line that refuses `text`
 pub record EmittedRefusal (left left_after : Option (List ℕ)) (text output : List ℕ) : Type 0 where
   pub emitted : List ℕ
   pub line : List ℕ
@@ -155,7 +157,7 @@ pub record EmittedToEnd (left left_after held held_after : Option (List ℕ)) : 
   pub is : EmittedWhole input output
   pub written : Appends held held_after output
 
--- the sink failed, and holds a prefix of an output for the text that was taken
+-- the sink failed. It got a prefix of an output that is right for the text taken from the source
 pub record EmittedPrefix (left left_after held held_after : Option (List ℕ)) : Type 0 where
   pub text : List ℕ
   pub output : List ℕ
@@ -163,7 +165,8 @@ pub record EmittedPrefix (left left_after held held_after : Option (List ℕ)) :
   pub is : EmittedPart text output ⊎ EmittedRefusal left left_after text output
   pub written : AppendsPrefix held held_after output
 
--- how a session ends: its status, the rest of the source before and after, and the content of the sink before and after
+-- how a session ends: its status, the bytes left in the source before and after it, and the content of the sink before
+-- and after it
 abbrev pub LiveEnds : Status → Option (List ℕ) → Option (List ℕ) → Option (List ℕ) → Option (List ℕ) → Type 0
 LiveEnds Done left left_after held held_after = EmittedToEnd left left_after held held_after
 LiveEnds Refused left left_after held held_after =

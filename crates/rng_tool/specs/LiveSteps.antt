@@ -119,7 +119,7 @@ At false (Some run) text emitted = RunsAt run text emitted
 abbrev pub IsAt : List ℕ → List ℕ → SessionWriter → Type 0
 IsAt text emitted t = At t.is_over t.run text emitted
 
--- the session had read `text` when it read the line `line`; `progress` is the script's progress after this line
+-- the session has read `text`, and `line` is the next line; `progress` is the script's progress after this line
 pub record ReadsLine (text line emitted : List ℕ) (progress : ScriptProgress) (t : SessionWriter) : Type 0 where
   pub at : IsAt text emitted t
   pub goes_on : t.is_over ≡ false
@@ -136,7 +136,7 @@ pub record TellsPart (text emitted : List ℕ) (t : SessionWriter) : Type 0 wher
   pub parts : text ≡ front ++ rest
   pub has : HasEmitted t.is_over t.run front emitted
 
--- no script of one caller begins with `front` and one or more whole lines at the beginning of `rest`
+-- if the first whole lines of `rest`, one or more, are added to `front`, no script of one caller begins with the result
 abbrev pub IsLast : List ℕ → List ℕ → Type 0
 IsLast front rest = (line more : List ℕ) → rest ≡ line ++ 10 ∷ more → BeginsScript (front ++ line ++ 10 ∷ []) → ⊥
 
@@ -167,7 +167,7 @@ pub record StopsBy (Is : List ℕ → Type 0) (Written : List ℕ → Type 0) : 
   pub is : Is emitted
   pub written : Written emitted
 
--- whatever follows `text`, `emitted` still has the line of each event
+-- whatever text follows `text`, `emitted` has the line of each event in the longer text
 pub record TellsOn (text emitted : List ℕ) (t : SessionWriter) : Type 0 where
   pub all : (more : List ℕ) → TellsAll (text ++ more) emitted t
 
@@ -228,7 +228,8 @@ abbrev pub SessionGoes : Result (Unit {0}) Stop → Option (List ℕ) → Option
 SessionGoes (Ok u) start held text s = StopsBy (λ emitted. SessionAt text emitted s) (Appends start held)
 SessionGoes (Err stop) start held text s = StopsAt stop start held text s.session_writer
 
--- `text` was taken from an input; if the input is too long, `text` has exactly one byte more than a script may have
+-- `text` was taken from the source. If `text` is longer than a script may be, it has exactly one byte more than a
+-- script may have
 pub record TakesText (left left_after : Option (List ℕ)) (text : List ℕ) : Type 0 where
   pub taken : WasTaken left left_after text
   pub long : most_script < length text → WasRead most_script left left_after text
@@ -271,7 +272,7 @@ pub record EmittedToLine (number : ℕ) (text emitted : List ℕ) : Type 0 where
   pub all : EmittedAll text emitted
   pub not_alone : IsNotAlone text number
 
--- how a session ends, up to the line that refuses its script, which is not yet written
+-- how a session ends. If the session refuses its script, the line of the refusal is not written yet
 abbrev pub SessionEnds : Result (Unit {0}) Stop → Option (List ℕ) → Option (List ℕ) → Option (List ℕ)
     → Option (List ℕ) → Type 0
 SessionEnds (Ok u) left left_after held held_after = EmittedToEnd left left_after held held_after

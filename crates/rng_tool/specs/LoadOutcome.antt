@@ -26,11 +26,11 @@ pub record IsSmall (load : LoadRequest) : Type 0 where
   pub callers : (1 ≤ load.callers) × (load.callers ≤ 64)
   pub events : (1 ≤ load.events) × (load.events ≤ 1000)
 
--- the words of the command line are `load START CALLERS EVENTS` with these numbers, which are in their ranges
+-- the words of the command line are `load START CALLERS EVENTS` with these numbers, and each number is in its range
 abbrev pub IsLoad : {A : Type 0} → List (String A) → ℕ → ℕ → ℕ → Type 0
 IsLoad words start callers events = AskLoad (map string_bytes words) start callers events
 
--- the words for the verdict of a check
+-- the end of a load's line: the verdict of the check
 abbrev pub check_words : Verdict → List ℕ
 check_words Yes = codes " check yes\n"
 check_words (No clause) = codes " check no " ++ decimal (clause_number (clause_of clause)) ++ codes "\n"

@@ -17,7 +17,7 @@ pub record RunOf (script : Script) (output : List ℕ) : Type 0 where
   pub run : IsSound script lines
   pub written : IsTranscriptText output lines
 
--- the input has a first fault, and the output is the line that refuses it
+-- the input has a first fault, and the output is the refusal line for this fault
 pub record IsRefusal (input output : List ℕ) : Type 0 where
   pub fault : ScriptFault
   pub first : first_fault input ≡ Some fault
@@ -39,8 +39,8 @@ CallsFor input ReadFault output = ⊥
 CallsFor input WriteFault output = ⊥
 CallsFor input NoMemory output = ⊥
 
--- how the command `run` ends: its status, the rest of the source before and after, and the content of the sink before
--- and after
+-- how the command `run` ends: its status, the bytes left in the source before and after it, and the content of the sink
+-- before and after it
 abbrev pub RunEnds : Status → Option (List ℕ) → Option (List ℕ) → Option (List ℕ) → Option (List ℕ) → Type 0
 RunEnds = ReadsEnds most_script CallsFor
 

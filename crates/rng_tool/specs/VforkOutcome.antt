@@ -19,8 +19,8 @@ pub record AskVfork (texts : List (List ℕ)) (point : Point) (attempt : Turn) (
 pub record IsSmallVfork (vfork : Vfork) : Type 0 where
   pub fits : (1 ≤ vfork.len) × (vfork.len ≤ 2 ^ 20)
 
--- the words of the command line are `vfork POINT ATTEMPT N` with the numbers of this point and attempt, and N = `n` in
--- its range
+-- the words of the command line are `vfork POINT ATTEMPT N`: POINT and ATTEMPT are the numbers of this point and this
+-- attempt, and N is `n`, which is in its range
 abbrev pub IsVfork : {A : Type 0} → List (String A) → Point → Turn → ℕ → Type 0
 IsVfork words point attempt n = AskVfork (map string_bytes words) point attempt n
 
@@ -31,7 +31,7 @@ end_line name bytes = name ++ (encode_lower bytes ++ 10 ∷ [])
 abbrev pub vfork_text : List ℕ → List ℕ → List ℕ
 vfork_text parent child = end_line (codes "parent ") parent ++ end_line (codes "child ") child
 
--- the output has the bytes that parent and child give out; these bytes follow from the only book of a new table
+-- the output has the bytes that parent and child give out, and a book of a new table gives these bytes
 pub record VforkOf (point : Point) (attempt : Turn) (n : ℕ) (output : List ℕ) : Type 0 where
   pub parent : List ℕ
   pub child : List ℕ

@@ -13,8 +13,8 @@ use key_names::Event;
 use std::sync::Wait;
 use transcript_text::LineWriter;
 
-/// Hands a script's only caller its events, and writes each line as it is made. If the sink fails, no more is written,
-/// and the caller still makes all of its lines.
+/// Runs the events of a script's only caller, and writes each line as soon as the line is made. If the sink fails,
+/// nothing more is written, but the caller still makes all of its lines.
 ///
 /// # Errors
 ///

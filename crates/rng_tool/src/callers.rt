@@ -13,7 +13,7 @@ use std::thread::Threads;
 use transcript_text::Transcript;
 
 // Whether a script's callers run in this thread or in several threads (tested; either choice is right). A single caller
-// forks no other, so it needs no thread.
+// forks no other caller, so it needs no thread of its own.
 fn children_of(script: &Script) -> Children {
     if script.callers() == 1 {
         Children::Here

@@ -19,7 +19,7 @@ const MOST_BYTES: usize = 11_006;
 /// The lines of all draws of a run, as one text.
 type DrawText = ArrayString<MOST_BYTES>;
 
-/// How many numbers are drawn, and their bound. If the bound is 0, whole words are drawn.
+/// How many numbers are drawn, and their bound. If the bound is 0, whole 32-bit words are drawn.
 #[derive(Clone, Copy, Debug, PartialEq, Eq)]
 pub(crate) struct DrawRequest {
     pub(crate) bound: u32,

@@ -26,7 +26,7 @@ const CLAUSES: [Clause; 6] = [
     Clause::Looks,
 ];
 
-/// A line of a transcript, by its number from 1, and what was expected there.
+/// The number of a line in a transcript's text, counted from 1, and what was expected there.
 #[derive(Drop)]
 struct Failing {
     number: usize,
@@ -77,7 +77,7 @@ fn mark_text(alloc: Global, mark: Mark) -> Result<String, AllocError> {
     }
 }
 
-// How many bytes at the front are equal.
+// The number of bytes before the first difference between `left` and `right`.
 fn same_front(left: &[u8], right: &[u8]) -> usize {
     for (count, (one, other)) in left.iter().zip(right).enumerate() {
         if one != other {
@@ -87,8 +87,8 @@ fn same_front(left: &[u8], right: &[u8]) -> usize {
     left.len().min(right.len())
 }
 
-// The bytes that were expected instead of the shown ones, at most 32. If more were expected, the text begins with the
-// first byte that differs.
+// The text of the data `bytes`, which were expected instead of `shown`. The text has at most 32 bytes of them. If there
+// are more, the text begins with the first byte that differs.
 fn bytes_text(alloc: Global, bytes: &[u8], shown: &[u8]) -> Result<String, AllocError> {
     if bytes.is_empty() {
         return format!(in alloc; "data -");
@@ -146,8 +146,8 @@ fn expected_text(
     }
 }
 
-// The number of the line in the text. The first line of the text has no event, and the callers' lines follow it, one
-// caller after the other.
+// The number of a failing line in the text, counted from 1. After the first line of the text come the callers' lines,
+// one caller after the other.
 fn number_of(t: &Transcript, place: &FailedLine) -> usize {
     let mut number = place.line.saturating_add(2);
     for caller in 0..t.callers() {
@@ -169,7 +169,7 @@ fn line_of<'a>(t: &'a Transcript, place: &FailedLine) -> Option<LineView<'a>> {
     Some(lines.line(place.line))
 }
 
-// The faulty line of a text that is not the text of a transcript.
+// The faulty line of a text that is no transcript, and what was expected there.
 fn of_text(alloc: Global, line: u32) -> Result<Failing, AllocError> {
     let expected = match line {
         1 => format!(in alloc; "rngtranscript 1")?,
@@ -185,7 +185,7 @@ fn of_text(alloc: Global, line: u32) -> Result<Failing, AllocError> {
     })
 }
 
-// The line of a transcript at which this clause fails.
+// The first line of a transcript at which this clause fails, and what was expected there.
 fn of_transcript(
     alloc: Global,
     script: &Script,
@@ -231,12 +231,12 @@ fn emitted(
     }
 }
 
-/// The first line of a script's transcript at which this clause fails, and what was expected there (tested). `None` if
-/// the input does not have the line. The clause must be the first that fails.
+/// The message for the first line of a script's transcript at which this clause fails, with what was expected there
+/// (tested). `None` if no such line is found in the input. The clause must be the first that fails.
 ///
 /// # Errors
 ///
-/// `AllocError` if there is no memory to find it.
+/// `AllocError` if there is no memory to find the line or to make the message.
 pub(crate) fn failing_line(
     alloc: Global,
     clause: u8,

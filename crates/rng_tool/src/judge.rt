@@ -1,4 +1,4 @@
-//! The commands `check` and `replay`. They take a script and a transcript after it, and write an answer.
+//! The commands `check` and `replay`. Their input is a script and then a transcript; they write an answer.
 ghost use Rattle.std.specs.Prelude.{◌≡◌, ◌⊎◌, ◌≤◌, ◌^◌, List, ℕ, length, IfSome, Some};
 ghost use Rattle.key_names.specs.Texts.ScriptGrammar.{WellFormed};
 ghost use Rattle.key_names.specs.Texts.TranscriptGrammar.{transcript_text};
@@ -80,7 +80,7 @@ fn say_checked<K: Sink>(alloc: Global, script: &Script, t: &Transcript, sink: &m
     }
 }
 
-// Writes the transcript, after its answers and data were made again.
+// Makes the transcript's answers and data again, and writes the result.
 fn say_replayed<K: Sink>(alloc: Global, script: &Script, t: &Transcript, sink: &mut K) -> Status
     requires { WellFormed script.now }
     ensures ends { WritesEnds (SaidOf Judge.Replay script.now t.now) result (K.held sink.old) (K.held sink.new) }
@@ -134,7 +134,7 @@ fn say_of_text<K: Sink>(
     ensures counted { CountsWriteFault result (K.faults sink.old) (K.faults sink.new) }
     ensures silent { result ≡ Status.NoMemory → sink.new ≡ sink.old }
 {
-    // The output of a run is lawful.
+    // The text equals the output of a run, and such an output is lawful.
     if following.is_whole() {
         return put_line(Status::Done, &yes_line(), sink);
     }

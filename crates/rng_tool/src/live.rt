@@ -1,5 +1,5 @@
-//! The command `live`: a session. Each event of a script's only caller is made as soon as the event's line was read,
-//! and the transcript's line is written at once.
+//! The command `live`: a session. Each event of a script's only caller is made as soon as the event's script line was
+//! read, and the event's transcript line is written at once.
 ghost use Rattle.std.specs.Prelude.{◌≡◌, ◌⊎◌, ◌+◌, ◌<◌, ◌++◌, ◌∷◌, [], ℕ, List, None, Option, false, true, length, IfSome};
 ghost use Rattle.std.specs.Io.KnownBytes.{Appends};
 ghost use Rattle.event_script.specs.Feeding.{HasFed};
@@ -30,7 +30,8 @@ struct Session {
     session_writer: SessionWriter,
 }
 
-// The first line of a text with its line feed, and the text after it. After the line `end` no line is looked for.
+// The first line of `text`, with its line feed, and the text after this line. `None` if the script's line `end` was
+// read, or if `text` has no line feed.
 fn next_line(is_over: bool, text: &[u8]) -> Option<(&[u8], &[u8])>
     ensures line { IfSome result (λ both. (is_over ≡ false)
         × ((line : List ℕ) × (both.0.now ≡ line ++ 10 ∷ []) × IsPart line)) }
@@ -142,7 +143,7 @@ fn finish(reader: ScriptReader) -> Result<(), Stop>
 {
     match reader.finish() {
         Ok(script) => {
-            // The program ends after this, and the system takes the script's memory at once.
+            // The program ends after this, and the system then frees the script's memory at once.
             mem::forget(script);
             Ok(())
         }

@@ -121,7 +121,7 @@ fn shown_len(transcript: &Transcript) -> u64
     sum
 }
 
-// The line that sums up a transcript of a script, lawful or not, with the verdict on it.
+// The line that sums up a script and a transcript of it, with the verdict on the transcript, which may be unlawful.
 fn checked_line(
     alloc: Global,
     callers: u32,

@@ -25,7 +25,7 @@
 //! # Proved
 //!
 //! - [`run`]: the main theorem. For every input, every interleaving of callers and every command, it states the meaning
-//!   of status and output. docs/TRUST.md has a row for each clause.
+//!   of status and output. docs/TRUST.md has a row for each clause of this contract.
 //! - [`run_gathered`]: the statements of `run` about status and source, for the program's buffered output.
 //!
 //! # Tested only
@@ -89,8 +89,8 @@ fn most_kept(words: &[String]) -> usize {
     }
 }
 
-/// Runs the command of the words over this source, and gathers its output for the writer. Returns the status, and the
-/// reason in a short answer (tested).
+/// Runs the command that the words name over this source, and gathers its output for the writer. Returns the status,
+/// and the reason that a short answer contains (tested).
 #[tactic(auto, using(crate::proofs::Unread::unread_judge, crate::proofs::Unread::unread_live, crate::proofs::Unread::unread_run))]
 fn run_gathered<R: Threads + Wait + Sync, S: Source, O: Write + Drop>(
     rt: &R,

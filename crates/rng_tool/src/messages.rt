@@ -1,4 +1,4 @@
-//! The message on standard error for a run that did not end well. No function here has a clause: all of it is only
+//! The message on standard error for a run that did not end well. No function here has a contract, so all of it is only
 //! tested.
 
 use crate::command::USAGE;
@@ -15,7 +15,7 @@ use tool_ends::tee::TeeSource;
 /// The most bytes of a line that a message shows.
 pub(crate) const MOST_SHOWN: usize = 80;
 
-/// What a message says about kind 13, which only a session can answer.
+/// The name of kind 13, with which only a session refuses a script.
 const NOT_ALONE: &str = "a session has one caller, who forks nobody and acts inside no call";
 
 /// The reason in a short answer: the fault of a script, the line of an event that no session takes, or the clause that
@@ -29,7 +29,7 @@ pub(crate) enum Why {
     Unsaid,
 }
 
-// The line number in the refusal of a fork, or of an act inside a vgetrandom call, by a session.
+// The line number in a session's refusal of a fork, or of an act inside a vgetrandom call. `None` for any other answer.
 fn not_alone_in(answer: &[u8]) -> Option<u32> {
     let word = answer.split(|byte| *byte == b' ').nth(1)?;
     let number = number_up_to(u64::from(u32::MAX), word)? as u32;
@@ -83,7 +83,7 @@ pub(crate) fn shown_line(line: &[u8]) -> Option<&str> {
     str::from_utf8(line).ok()
 }
 
-// Writes the line of a script that was refused, with the kind of its fault.
+// Writes the line at which a script was refused, with the kind of the fault.
 fn tell_line<R: Eprint, S: Source + Drop>(
     rt: &R,
     line: u32,

@@ -30,49 +30,49 @@ use std::sync::Wait;
 use std::thread::Threads;
 use tool_ends::{Status, end_output};
 
-/// Runs the command of the words.
+/// Runs the command that the words of the command line name.
 ///
 /// Commands without numbers read the input, and the others read no input. A script has at most 16 MiB, and with a
-/// transcript after it 96 MiB. A longer input is answered by `refused 0 1`, and only one byte more of it is taken. A
-/// number is spelt as in a script; START is below 2^32.
+/// transcript after it 96 MiB. A longer input is answered by `refused 0 1`, and only one byte more than the limit is
+/// taken from the source. A number is spelt as in a script; START is below 2^32.
 ///
-/// - `run`: the input is a script, and its callers run in threads. The output is its transcript, which is lawful for
-///   the script however the callers' calls interleave; or the line `refused LINE KIND`, with the first fault of an
-///   input that is no script.
+/// - `run`: the input is a script. If it has several callers, they run in threads. The output is the script's
+///   transcript, which is lawful however the callers' calls interleave. If the input is no script, the output is the
+///   line `refused LINE KIND`, with the input's first fault.
 /// - `live`: the input is a script of one caller, who forks nobody and acts inside no vgetrandom call. Each event is
-///   made as soon as its line was read, and the transcript's line is written. For a whole script the output is one that
-///   `run` may write. At a fault the output ends with the line `refused LINE KIND`, after the lines of the events
-///   before the fault. A fork or an act has kind 13, which no fault of a script has. After a fault no more is read, and
-///   after the line `end` the input is read to its end.
+///   made as soon as its line was read, and its transcript line is then written. For a whole script the output is one
+///   that `run` may write. At a fault the output ends with the line `refused LINE KIND`, after the lines of the events
+///   before the fault. A fork or an act inside a call is refused with kind 13, which no fault of a script has. After a
+///   fault nothing more is read; after the line `end` the input is read to its end.
 /// - `check`: the input is a script, which ends at its first line `end`, and then a transcript. The output is `yes` if
 ///   the transcript is lawful for the script, and `no K` if clause K is the first that fails. A fault of the script is
-///   answered as in a run. No thread is started.
+///   answered as by `run`. No thread is started.
 /// - `replay`: the input is as for `check`. The output is the one lawful transcript with the input's lines, words and
-///   steps, whatever answers and data the input has; or `no K`, if the text is not that of a transcript (clause 1), or
-///   if the clause on lines, marks, forms or looks fails.
+///   steps, whatever answers and data the input has. The output is `no 1` if the text is not the text of a transcript.
+///   It is `no K` if clause K is the first that fails among the clauses on lines, marks, forms and looks.
 /// - `load START CALLERS EVENTS`: 1 to 64 callers run the script of a load, with 1 to 1,000 calls each, and their
 ///   transcript is checked. One line sums it up: `callers CALLERS events V bytes B check yes`, with V events in the
 ///   script and B bytes of data in the transcript.
-/// - `draw C K`: 1 to 1,000 numbers below C are drawn, and each gets a line. C is below 2^32, and 0 means 2^32. If 128
-///   words were all rejected, the last line is `spent`.
+/// - `draw C K`: K numbers below C are drawn, and each gets a line. K is from 1 to 1,000. C is below 2^32, and C = 0
+///   means 2^32. If a draw rejects 128 words, the last line is `spent`.
 /// - `vfork POINT ATTEMPT N`: the caller of a vgetrandom call for N bytes, up to 2^20, forks at point POINT (1 to 4) of
 ///   attempt ATTEMPT (1 or 2). The output is `parent HEX` and `child HEX`, the bytes that each of the two gives out.
 /// - `feed START FEEDERS SAMPLES`: 1 to 16 threads give a CPU 1 to 10,000 interrupt samples each, all at moment 0.
 ///   Sample i of thread f has the words START + i and f. The output is the line
-///   `feeders FEEDERS samples N dumps D bits B`: the samples mixed, the dumps made, and the pool's bits after them. The
-///   line is the same however the threads interleave.
+///   `feeders FEEDERS samples N dumps D bits B`: the samples mixed, the dumps made, and the bits credited to the pool
+///   after all dumps. The line is the same however the threads interleave.
 ///
 /// `draw`, `vfork` and `feed` begin with a new table of one CPU. Before draws and forks, a sample of 32 bytes makes the
 /// core ready.
 ///
-/// The gate is called before each event of each caller, and never before a script is accepted. For `feed` it is called
-/// before each sample of each feeder; for `check` it is not called.
+/// The gate is called before each event of each caller. `run` accepts the whole script before the first call of the
+/// gate. For `feed` the gate is called before each sample of each feeder; for `check` it is not called.
 ///
 /// - `Usage`: the words are no command. The command reads and writes nothing.
 /// - `ReadFault`: the source failed. Nothing is written, except by a session. At most one byte more than an input may
 ///   have was taken.
-/// - `Refused`: the input has a fault, and the line with the first one was written; or the script of a session has a
-///   fork, or an act inside a call.
+/// - `Refused`: the input has a fault, or the script of a session has a fork or an act inside a call. The line that
+///   refuses the input was written; for a fault, this line has the input's first fault.
 /// - `WriteFault`: the sink failed at a put, or at the flush after the last put. The bytes that it got in this call are
 ///   a prefix of the output.
 /// - `NoMemory`: memory ran out. Nothing is written, except by a session. At most one byte more than an input may have

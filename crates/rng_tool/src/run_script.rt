@@ -1,4 +1,4 @@
-//! The command `run`: it takes a script, and gives its transcript.
+//! The command `run`: it reads a script, and writes the script's transcript.
 ghost use Rattle.std.specs.Prelude.{◌≡◌, ◌⊎◌};
 ghost use Rattle.key_names.specs.Texts.ScriptGrammar.{WellFormed};
 ghost use Rattle.rng_tool.specs.Outcome.{RunEnds, RunOf};
@@ -79,8 +79,8 @@ pub(crate) fn run_input<R: Threads + Wait + Sync, S: Source, K: Sink, G: Gate>(
     match read_script(alloc, source) {
         Ok(script) => {
             let status = run_script(rt, alloc, &script, sink, gate);
-            // The program ends after this, and the system takes the script's memory at once. Freeing the events one by
-            // one takes 3 % of a run of small events.
+            // The program ends after this, and the system then frees the script's memory at once. Freeing the events
+            // one by one takes 3 % of a run of small events.
             mem::forget(script);
             status
         }

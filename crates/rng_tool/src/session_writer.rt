@@ -27,7 +27,7 @@ pub(crate) struct SessionWriter {
     is_over: bool,
 }
 
-// The last event, if the script could end after this event, and the event is no act and no fork.
+// The last event, if it is neither an act nor a fork, and if the script could end after it.
 fn last_once(events: &[Event], has_orphan: bool) -> Option<&Event>
     ensures some { IfSome result (λ event. (has_orphan ≡ false) × IsEmittedOnce event.now
         × ((front : List Event) × (events.entry.now ≡ front ++ event.now ∷ []))) }

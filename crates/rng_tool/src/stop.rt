@@ -43,7 +43,8 @@ impl From<AllocError> for Stop {
     }
 }
 
-/// The line for a fork, or for an act inside a call: kind 13, which no fault of a script has.
+/// The line that refuses a fork, or an act inside a call, in line `number` of a script: kind 13, which no fault of a
+/// script has.
 pub(crate) fn not_alone_line(number: u32) -> ShortLine
     ensures { result.bytes ≡ not_alone_line number }
 {

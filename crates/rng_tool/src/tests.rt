@@ -1,4 +1,4 @@
-//! Whole runs over sources and sinks in memory that fail at each of their calls, and the calls of the gate.
+//! Whole runs over sources and sinks in memory, which fail at each of their calls in turn; and the calls of the gate.
 //! `.ci/program_checks` and `.ci/check_checks` check the answers of the built program.
 
 use crate::run::run;
@@ -82,8 +82,8 @@ const READS_SCRIPT: &[u8] = b"rngscript 1\n\
 // More bytes than any output here has.
 const ROOM: usize = 1000;
 
-// How a source and a sink behave: `step` is the most bytes that each of them moves in one call. `failing_take` and
-// `failing_put` are the numbers of the source's and the sink's call that fails, 0 for none.
+// How a source and a sink behave: `step` is the most bytes that each of them moves in one call. `failing_take` is the
+// number of the source's call that fails, and `failing_put` of the sink's call; 0 means none.
 #[derive(Clone, Copy)]
 struct Edges {
     step: usize,
@@ -170,8 +170,8 @@ const ROWS: [UsageRow; 10] = [
     ),
 ];
 
-// The source gives one byte a call, and one more call finds the end of the input. A command without input calls no
-// source.
+// The source gives one byte a call, and one more call finds the end of the input. A command without input never calls
+// the source.
 #[test]
 fn a_source_that_fails_at_each_call(rt: HostRuntime) -> Result<(), Fail> {
     for (row, (words, input, status, output)) in ROWS.iter().enumerate() {

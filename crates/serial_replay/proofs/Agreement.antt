@@ -21,7 +21,7 @@ use Rattle.serial_replay.specs.Remade.{said_of_caller}
 pub some_one : {X : Type 0} (o : Option X) (a b : X) → o ≡ Some a → o ≡ Some b → a ≡ b
 some_one o a b p q = cc
 
--- each line of each caller has the property `Is`, by the caller's number; the first caller has the number `c`
+-- each line of each caller has the property `Is` for the caller's number; the first caller has the number `c`
 abbrev pub AllAre : (ℕ → SeenLine → Type 0) → ℕ → List (List SeenLine) → Type 0
 AllAre Is c [] = ⊤
 AllAre Is c (lines ∷ t) = AllByRecursion (Is c) lines × AllAre Is (suc c) t

@@ -1,5 +1,5 @@
--- A bare line is a line without its answer and data. If lists, answers and data made from bare lines are right for
--- them, they are also right for the full lines.
+-- A bare line is a line without its answer and data. If lists, answers and data were made from bare lines, and are
+-- right for these, they are also right for the full lines.
 use Rattle.std.proofs.Common.{◌≡◌, ℕ, suc, List, [], ◌∷◌, map, sym, subst, ap, ◌∙◌}
 use Rattle.std.specs.Prelude.{Result, Ok, Err, IfOk}
 use Rattle.key_names.specs.Texts.TranscriptGrammar.{StepFits, LineFits}
@@ -63,8 +63,8 @@ callers_say saids c (calls ∷ callers) [] all = absurd all
 callers_say saids c (calls ∷ callers) (ms ∷ mss) all =
     (calls_say (saids c) calls ms all.0, callers_say saids (suc c) callers mss all.1)
 
--- if `t` and `u` have the same steps, and the books `one` and `other` are equal, `t` has lawful looks by `one` exactly
--- if `u` has by `other`
+-- let `t` and `u` have the same steps, and let the books `one` and `other` be equal. The looks of `t` are lawful in
+-- `one` exactly if the looks of `u` are lawful in `other`
 pub same_looks : (script : Script) (t u : List (List SeenLine)) → SameSteps t u → (one other : Book) → one ≡ other →
     SeenConforms script t (lists_of one) ≡ SeenConforms script u (lists_of other)
 same_looks script t u same one other books =

@@ -49,7 +49,7 @@ said_by_all lists settings saids c (calls ∷ callers) each =
     (each (suc d) (omega arith))) in
     record { mss = first.meanings ∷ rest.mss; means = (first.mean, rest.means); says = (first.says, rest.says) }
 
--- the events and the lines that the calls of one caller group
+-- the events and the lines of one caller, which are grouped into its calls
 pub record CallsOf (calls : List Call) : Type 0 where
   pub events : List Event
   pub lines : List SeenLine

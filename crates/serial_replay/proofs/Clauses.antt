@@ -1,4 +1,4 @@
--- If the definitions' clauses for two clauses of the code are equal, the two clauses of the code are equal.
+-- Each clause of the code has a clause of the definitions. Two clauses of the code that have the same one are equal.
 use Rattle.std.proofs.Common.{◌≡◌, refl, sym, ap, ◌∙◌}
 use Rattle.key_names.specs.Transcripts.IsTranscript as laws
 use Rattle.judge_lines.specs.Clauses.{clause_of}

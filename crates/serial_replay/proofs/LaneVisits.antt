@@ -1,5 +1,5 @@
--- A book is made from lists and sorted marks. The book's visits are these marks, and each visit is at the place of its
--- mark.
+-- A book is made from lists and sorted marks. The book's visits have exactly these marks, and each visit is at the
+-- place of its mark.
 use Rattle.std.proofs.Common.{◌≡◌, ℕ, zero, suc, ◌+◌, Bool, true, false, Some, List, [], ◌∷◌, ◌++◌, length, map, refl, sym, subst, ap, ◌∙◌, arith, append_assoc, length-append}
 use Rattle.std.specs.Prelude.{if◌then◌else◌, IsPermutation}
 use Rattle.std.specs.List.{AllByRecursion, sum_by}

@@ -56,8 +56,8 @@ at_place : {K E : Type 0} (S : ℕ → K → E → Type 0) (kept : List K) (list
     AtPlace S kept i (slice_get list i)
 at_place S kept list i all = kept_there S kept list i all.count (all.each i)
 
--- if `S` holds of each lane's kept data with the lane's entries, and of two empty lists, `S` holds of the kept data and
--- the entries at any lane number `c`
+-- let `S` hold of two empty lists, and of each lane's kept data with the lane's entries. Then `S` holds of the kept
+-- data and the entries at any lane number `c`
 lane_there : {K E : Type 0} (kept : List (List K)) (lists : List (List E)) (c : ℕ) (o : Option (List E)) →
     slice_get lists c ≡ o → length kept ≡ length lists → (S : ℕ → List K → List E → Type 0) →
     AtPlace S kept c o → S c [] [] → S c (list_at kept c) (list_at lists c)
@@ -196,8 +196,8 @@ module _ (kept : KeptLists) (lists : Lists) (keeps : Keeps kept lists) where
       by [] (k ∷ ks) long each = absurd (omega arith)
       by (e ∷ es) ks long each = reseeds_from ks (e ∷ es) base_start 0 long each (omega arith)
 
-  -- let `orders` have each caller's steps in order. The looks in them are lawful by the kept data exactly if they are
-  -- lawful in the lists
+  -- let `orders` have each caller's steps in order. The looks in these steps are lawful by the kept data exactly if the
+  -- looks are lawful in the lists
   pub looks_conform : (reseeds : ℕ) → reseeds ≡ reseeds_in kept.base.items → (orders : List (List Step)) →
       AllByRecursion (Along (seen_past kept) (MayLook reseeds) None) orders
       ↔ AllByRecursion (λ order. LooksConform (base_after lists.base).generation [] (effects_of lists order)) orders

@@ -1,5 +1,4 @@
--- The number of all marks is the number of the pool's marks, plus that of the base's marks, plus those of each CPU's
--- marks.
+-- The number of all marks is the sum of three numbers: the pool's marks, the base's marks, and the marks of all CPUs.
 use Rattle.std.proofs.Common.{◌≡◌, ℕ, zero, suc, ◌+◌, ◌<◌, ◌≤◌, Bool, true, false, List, [], ◌∷◌, length, refl, sym, subst, ap, ◌∙◌, arith}
 use Rattle.std.specs.Prelude.{nat_lt, ◌==◌, if◌then◌else◌}
 use Rattle.std.specs.List.{AllByRecursion, sum_by}

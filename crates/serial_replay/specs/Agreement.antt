@@ -1,4 +1,4 @@
--- Whether lines agree with the answers and data made from their steps, by the notes of these.
+-- Whether lines agree with the notes of the answers and data that were made from their steps.
 use Rattle.std.specs.Prelude.{ℕ, ◌≡◌, ◌<◌, Some, List, length, slice_get}
 use Rattle.std.specs.List.{AllByRecursion}
 use Rattle.key_names.specs.Lanes.Book.{list_at}

@@ -34,8 +34,8 @@ abbrev pub IsFound : Script → List (List SeenLine) → FoundLists → Type 0
 IsFound script t (Conforms basis) = BasisConforms script t basis
 IsFound script t (No clause) = FailsEarly script t clause
 
--- if answers and data were made, `BasisConforms` holds of the basis (the kept data of the lanes) that they were made
--- from
+-- if answers and data were made, `BasisConforms` holds of their basis: the kept data of the lanes, from which they were
+-- made
 abbrev pub ConformsOn : {Noted : Type 0} → Script → List (List SeenLine) → Remade Noted → Type 0
 ConformsOn script t (MadeAll m) = BasisConforms script t m.basis
 ConformsOn script t (NotMade clause) = ⊤

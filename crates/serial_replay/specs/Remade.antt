@@ -39,7 +39,7 @@ pub record CallersConform (script : Script) (t : List (List SeenLine)) (callers 
   pub calls : callers ≡ script_calls script t
   pub found : AreSettings callers settings
 
--- the calls have some lawful meanings in `lists`, if the first one begins with the setting `set`
+-- if the first call begins with the setting `set`, the calls have some lawful meanings in `lists`
 pub record MeansSome (lists : Lists) (set : Setting) (calls : List Call) : Type 0 where
   pub ms : List CallMeaning
   pub means : CallerMeans lists set calls ms
@@ -57,7 +57,7 @@ abbrev pub made_by : {Noted : Type 0} → Made Noted → List (List Noted)
 made_by m = said_lists m.callers.items
 
 module _ {Noted : Type 0} (IsNoted : ℕ → ℕ → MadeLine → Noted → Type 0) where
-  -- the note at the event's number among the notes of caller `c` is a note of the answer and data
+  -- at the event's number, the notes of caller `c` have a note of this answer and these data
   abbrev pub said_of_caller : List (List Noted) → ℕ → ℕ → MadeLine → Type 0
   said_of_caller notes c = NotedAt (IsNoted c) (list_at notes c)
 
@@ -66,7 +66,7 @@ module _ {Noted : Type 0} (IsNoted : ℕ → ℕ → MadeLine → Noted → Type
     pub each : (c : ℕ) → c < length callers →
         IsSaid lists (start_setting callers c) (list_at callers c) (said_of_caller (said_lists notes) c)
 
-  -- the steps of `t` make a book. At the number of each line's event is a note of the line's answer and data.
+  -- the steps of `t` make a book. At each line's event number, `m` has a note of the line's answer and data.
   -- `looks_conform` is true exactly if the looks are lawful
   pub record AllMade (script : Script) (t : List (List SeenLine)) (m : Made Noted) : Type 0 where
     pub made : MadeBook script t

@@ -25,7 +25,8 @@ abbrev pub found_by : KeptLists → Step → Option ℕ
 found_by kept (Look g) = Some g
 found_by kept (Marked mark) = left_at kept mark.lane mark.place
 
--- the greater of the generations `carried` and found; if only one is there, this one; if neither is there, none
+-- the greater of the generations `carried` and found. If only one of them is present, the result is this one; if
+-- neither is present, the result is none
 abbrev pub seen_more : Option ℕ → Option ℕ → Option ℕ
 seen_more carried None = carried
 seen_more carried (Some found) = Some (max (unwrap_or carried 0) found)

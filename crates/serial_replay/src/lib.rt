@@ -2,7 +2,7 @@
 //! not read.
 //!
 //! From a transcript's steps, [`remake::remake`] makes the lists of the lanes, every answer, and recipes for all data.
-//! The argument `how` determines what is noted of each answer and its data. The result also has the lists.
+//! The argument `how` determines what is noted of each line's answer and data. The result also has the lists.
 //! [`replay::replay`] writes the result as a transcript. [`lists::find_lists`] makes only the lists of the lanes, from
 //! which all answers and data are made. The crate uses `judge_lines` for lines, marks and orders. It uses `judge_log`
 //! for the lists, and for the answer and data of each line.

@@ -8,7 +8,7 @@ use judge_log::{KeptBase, KeptCpu, Lists};
 use key_names::{LaneId, Mark, Step};
 
 /// Goes along a caller's steps in their order, and keeps the generation that the caller has seen. This is the greatest
-/// that a look found so far, or that a visit of the base or of a CPU left.
+/// generation that a look has found so far, or that a visit of the base or of a CPU has left.
 #[derive(Drop)]
 pub(crate) struct Looks<'a> {
     lists: &'a Lists,

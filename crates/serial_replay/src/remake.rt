@@ -38,8 +38,8 @@ pub struct Made<'a, T: Drop> {
     pub basis: Basis<'a>,
 }
 
-/// The result for a transcript's steps: notes of each caller's lines, or the first of the clauses on lines, marks and
-/// forms that fails. Notes are made even if a look is not lawful.
+/// The result for a transcript's steps: notes of each caller's lines; or, among the clauses on lines, marks and forms,
+/// the first that fails. Notes are made even if a look is not lawful.
 #[derive(Drop)]
 pub enum Remade<'a, T: Drop> {
     Made(Made<'a, T>),

@@ -53,7 +53,7 @@ fn put_bytes(buffer: &mut Vec<u8>, said: &MadeLine) -> Result<(), AllocError>
     }
 }
 
-// The data in `said`; if they are bytes, they are `bytes`.
+// The data of `said`. If these data are bytes, `bytes` has them, already made.
 fn shown_as<'a>(said: &MadeLine, bytes: &'a [u8]) -> Shown<'a>
     requires bytes { bytes.now ≡ bytes_said said.now.shows }
     requires short { length bytes.now < 2 ^ 32 }

@@ -17,7 +17,7 @@ one_more {X = X} P xs n x is here rest =
       (λ h. (let whole : AllByRecursion P (x ∷ drop (n + 1) xs) = (here, h) in rest.1 (subst All (sym e) whole))),
     )
 
--- if `Q` holds of the notes `s` and the lines `ls`, it holds of `s'` and `ls'`, which are equal to them
+-- if `Q` holds of the notes `s` and the lines `ls`, and these equal `s'` and `ls'`, `Q` holds of `s'` and `ls'`
 pub moved : (Q : List Same → List SeenLine → Type 0) (s s' : List Same) (ls ls' : List SeenLine) → s ≡ s' → ls ≡ ls' →
     Q s ls → Q s' ls'
 moved Q s s' ls ls' e e' q = subst (Q s') e' (subst (λ x. Q x ls) e q)

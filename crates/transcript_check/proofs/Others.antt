@@ -22,7 +22,7 @@ each_found P (y ∷ xs) zero x all is = subst P (same_Some y x is) all.0
 each_found P (y ∷ xs) (suc n) x all is = each_found P xs n x all.1 is
 
 -- let line `n` of caller `c` in `t` differ from what its steps give, and let all lines of `u` agree with what the steps
--- of `t` give. Then `u` does not have this line
+-- of `t` give. Then line `n` of caller `c` in `u` is not the same line
 none_of : (IsSaid : SeenLine → MadeLine → Type 0) (script : Script) (t u : List (List SeenLine)) (c n : ℕ)
     (has : HasOther IsSaid script t c n) → AllAgree IsSaid (made_by has.made) u →
     slice_get (list_at t c) n ≡ slice_get (list_at u c) n → ⊥

@@ -1,4 +1,4 @@
--- The note that is made when a line is compared with the answer and data of its steps.
+-- What is noted when a line is compared with the answer and data that its steps give.
 use Rattle.std.specs.Prelude.{ℕ, ◌≡◌, ◌↔◌, IsTrue, Some, List, slice_get}
 use Rattle.key_names.specs.Lanes.Book.{list_at}
 use Rattle.key_names.specs.Transcripts.SeenLine.{SeenLine}

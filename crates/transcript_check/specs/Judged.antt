@@ -19,7 +19,7 @@ use Rattle.transcript_check.specs.declared.check.Verdict.{Verdict}
 use Rattle.transcript_check.specs.declared.check.Verdict.TheVariants.{Yes, No}
 
 -- the transcript is lawful with `book`, and `book` uses no byte of a key's keystream twice. The lines show bytes of
--- named keys, and each such byte at most once. Along the order of each caller's steps, no look finds a lower generation
+-- named keys, and each such byte at most once. In the order of each caller's steps, no look finds a lower generation
 -- than an earlier look
 pub record IsSound (script : Script) (t : List (List SeenLine)) : Type 0 where
   pub book : Book

@@ -16,20 +16,22 @@ pub record IsOther (IsSaid : SeenLine → MadeLine → Type 0) (notes : List Mad
   pub said : slice_get notes line.event ≡ Some one
   pub other : IsSaid line one → ⊥
 
--- the caller whose lines are `lines` has a line with this number, and this line differs from what is in `notes` for it
+-- `lines`, the lines of one caller, have a line with this number, and this line differs from the answer or data in
+-- `notes` for it
 pub record IsOtherAt (IsSaid : SeenLine → MadeLine → Type 0) (notes : List MadeLine) (lines : List SeenLine) (number : ℕ) : Type 0 where
   pub line : SeenLine
   pub there : slice_get lines number ≡ Some line
   pub is : IsOther IsSaid notes line
 
--- the line with this number of this caller differs from the answer or data that the steps of `t` give
+-- in `t`, the line with this number among this caller's lines differs from the answer or data that the steps of `t`
+-- give
 pub record HasOther (IsSaid : SeenLine → MadeLine → Type 0) (script : Script) (t : List (List SeenLine))
     (caller number : ℕ) : Type 0 where
   pub made : Made MadeLine
   pub says : AllMade itself script (map (map bare) t) made
   pub other : IsOtherAt IsSaid (list_at (made_by made) caller) (list_at t caller) number
 
--- no lawful transcript with the steps of `t` has, at this caller and number, the same line as `t`
+-- each lawful transcript with the steps of `t` differs from `t` in this caller's line with this number
 abbrev pub IsReplacedIn : Script → List (List SeenLine) → ℕ → ℕ → Type 0
 IsReplacedIn script t caller number = (u : List (List SeenLine)) → SameSteps t u → IsTranscript script u →
     slice_get (list_at t caller) number ≢ slice_get (list_at u caller) number

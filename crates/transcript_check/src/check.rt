@@ -66,8 +66,8 @@ fn judge<'a>(alloc: Global, script: &'a Script, t: &'a Transcript) -> Result<Jud
 }
 
 /// Whether a transcript is lawful for a script. If the transcript is lawful, returns the data kept about the lists of
-/// its lanes. The lists are made from the transcript's words and steps alone. The transcript's answers and data agree
-/// with the lists.
+/// its lanes; otherwise returns the first clause that fails. The lists are made from the transcript's words and steps
+/// alone, and the transcript's answers and data agree with them.
 ///
 /// # Errors
 ///

@@ -1,5 +1,5 @@
-//! Compares each line with the answer and data that its steps give, as soon as these are made. Notes whether the line's
-//! answer agrees, and whether its data agree.
+//! Compares each line with the answer and data that its steps give, as soon as this answer and these data are made.
+//! Notes whether the line's answer agrees, and whether its data agree.
 ghost use Rattle.std.specs.Prelude.{◌≡◌, ◌↔◌, IsTrue, Some, length, slice_get, MatchOption};
 ghost use Rattle.std.specs.List.{AllByRecursion};
 ghost use Rattle.key_names.specs.Lanes.Book.{list_at};

@@ -31,7 +31,7 @@ fn first_other_mark(
     }
 }
 
-// The first line that has a look of a generation that is too low or too high.
+// The first line with a look whose generation is too low or too high.
 fn first_other_look(
     alloc: Global,
     script: &Script,
@@ -62,15 +62,15 @@ fn first_other_look(
 ///   stamps) at which the lane allows no entry that fits the line's steps. If there is none, the first line with steps
 ///   that match no form.
 /// - Answers and data: the first line with an answer, or with data, that its steps do not give.
-/// - Looks: the first line with a look that is below the generation that its caller had seen, or above the number of
-///   reseeds.
+/// - Looks: the first line with a look whose generation is below the one that the line's caller had seen, or above the
+///   number of reseeds.
 ///
 /// The contract covers only the clauses on answers and data. Tests cover the other clauses, and that no earlier line
 /// fails.
 ///
 /// # Errors
 ///
-/// `AllocError` if there is no memory to find it.
+/// `AllocError` if there is no memory to find the line.
 pub fn first_failing_line(
     alloc: Global,
     script: &Script,

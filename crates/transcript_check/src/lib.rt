@@ -21,17 +21,17 @@
 //! # Proved
 //!
 //! - [`check::check`]: the result is `Yes` exactly if each clause holds. Otherwise it is the first clause that fails.
-//!   For a lawful transcript no byte of a key is used twice, and no caller's looks fall.
+//!   For a lawful transcript no byte of a key is used twice, and the generations that a caller's looks find never fall.
 //! - [`check::check_lists`]: the verdict is the same as that of `check`. For a lawful transcript the result has the
 //!   lists.
-//! - [`failing::first_failing_line`]: if the clause is that on answers or that on data, the line has another answer, or
-//!   other data, than its steps give.
+//! - [`failing::first_failing_line`]: for the clause on answers, the line that it finds has another answer than its
+//!   steps give. For the clause on data, this line has other data.
 //! - [`laws`]: no lawful transcript with the same steps has a line with another answer, or other data, than its steps
 //!   give.
 //!
 //! # Tested only
 //!
-//! That no line before the found one fails; and that the lines found for the clauses on lines, marks, forms and looks
+//! That no line before the found line fails; and that the lines found for the clauses on lines, marks, forms and looks
 //! fail: `.ci/check_checks`.
 #![tactic(auto)]
 

@@ -21,7 +21,7 @@ struct Ends {
 }
 
 impl Ends {
-    // Keeps the first rows of each lane: one row for each visit of this lane in `visits`.
+    // For each lane, keeps as many of its first rows as `visits` has visits of the lane.
     fn of(alloc: Global, cpus: usize, visits: &[VisitOf]) -> Result<Ends, AllocError> {
         let mut ends = Ends {
             pool: 0,
@@ -91,7 +91,7 @@ fn cut_lanes(
     Ok(cut)
 }
 
-// Whether some lawful lists match the rows of these visits, with the rows up to each place that these rows name.
+// Whether some lawful lists match the rows of these visits, and also the rows up to each place that these rows name.
 fn begins(
     alloc: Global,
     inferred: &InferredEntries<'_>,
@@ -111,7 +111,7 @@ fn begins(
 }
 
 // Finds by bisection a number of visits, counted from the first. Some lawful lists match the rows of these visits, but
-// none match the rows of one visit more.
+// none match the rows if one more visit is added.
 fn most_visits(
     alloc: Global,
     inferred: &InferredEntries<'_>,
@@ -133,7 +133,8 @@ fn most_visits(
 }
 
 /// Goes through the visits in the order of their stamps. Returns the line of the first visit such that no lawful lists
-/// match the inferred rows up to this visit. This is tested, not proved. No lawful lists may match the whole tables.
+/// match the inferred rows up to this visit. This is tested, not proved. Before the call it must be known that no
+/// lawful lists match the whole tables.
 pub(crate) fn first_other_entry(
     alloc: Global,
     inferred: &InferredEntries<'_>,

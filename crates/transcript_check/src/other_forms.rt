@@ -146,7 +146,7 @@ fn first_of_all(
 ///
 /// # Errors
 ///
-/// `AllocError` if there is no memory to find it.
+/// `AllocError` if there is no memory to find the line.
 pub(crate) fn first_other_form(
     alloc: Global,
     script: &Script,

@@ -16,7 +16,7 @@ use serial_replay::remake::{Remade, remake};
 use std::alloc::{AllocError, Global};
 use transcript_text::{CallerLines, LineView, Transcript};
 
-/// The part of a line that is compared with the one that the line's steps give: its answer, or its data.
+/// A part of a line, its answer or its data, which is compared with what the line's steps give.
 pub(crate) trait SaidPart {
     /// Whether this part of a line agrees with what was made from the line's steps.
     ghost IsSaid: { Self → SeenLine → SaidOfLine → Type 0 };
@@ -81,7 +81,7 @@ fn first_of_caller<P: SaidPart>(part: &P, lines: &CallerLines, said: &[MadeLine]
     None
 }
 
-// The part of a caller's line as it was made from the line's steps.
+// What was expected for this part of a line: the answer or data made from the line's steps.
 fn expected_of<P: SaidPart>(
     alloc: Global,
     part: &P,
@@ -119,12 +119,12 @@ fn first_of_all<P: SaidPart>(
     Ok(None)
 }
 
-/// The first line with an answer, or with data, that its steps do not give. `None` if the clause on lines, marks or
-/// forms fails. Tests cover that no earlier line differs.
+/// The first line with an answer, or with data, that its steps do not give. `None` if there is no such line, or if the
+/// clause on lines, marks or forms fails. Tests cover that no earlier line differs.
 ///
 /// # Errors
 ///
-/// `AllocError` if there is no memory to find it.
+/// `AllocError` if there is no memory to find the line.
 pub(crate) fn first_other<P: SaidPart>(
     alloc: Global,
     script: &Script,

@@ -9,7 +9,7 @@ use judge_log::Lists;
 use key_names::{Event, LaneId, Mark, Point, Step};
 use std::alloc::{AllocError, Global};
 
-/// What is carried along a caller's steps, to compare each step with it: a stamp, or a generation.
+/// The value that is carried along a caller's steps, and with which each step is compared: a stamp, or a generation.
 #[derive(Clone, Copy)]
 pub(crate) enum Carried<'a> {
     /// The stamp of the caller's last visit.
@@ -67,7 +67,7 @@ impl Carried<'_> {
     }
 }
 
-/// How far the search is in a caller's steps: the value carried so far, and the first line that failed.
+/// The state of the search in a caller's steps: the value carried so far, and the first line that failed.
 #[derive(Drop)]
 struct CallerPosition<'a> {
     how: Carried<'a>,
@@ -77,8 +77,8 @@ struct CallerPosition<'a> {
 }
 
 impl CallerPosition<'_> {
-    // Carries the value along these steps of the caller's line with the number `line`, and compares each step with the
-    // value.
+    // Carries the value along `steps`, the steps of the caller's line with the number `line`. Compares each step with
+    // the value.
     fn go(&mut self, line: usize, steps: &[Step]) {
         for step in steps {
             if self.found.is_none() {
@@ -216,8 +216,8 @@ fn go_along(
     Ok(())
 }
 
-/// The first line with a step that the value carried to it does not allow. The callers are searched in order, and
-/// `callers` must have the lines of each caller. This is tested, not proved.
+/// The first line with a step that the value carried to this step does not allow. The callers are searched in order,
+/// and `callers` must have the lines of each caller. This is tested, not proved.
 pub(crate) fn first_off_path(
     alloc: Global,
     script: &Script,

@@ -19,9 +19,9 @@ pub enum Expected {
     StampAbove(u64),
     /// A visit of a CPU with a number below this one.
     CpuBelow(u32),
-    /// Another entry at this visit: the line's steps fit no entry that its lane allows there.
+    /// Another entry for this visit: the line's steps fit no entry that the visit's lane allows there.
     Entry(Mark),
-    /// Steps that match a form: those of the line match none.
+    /// Steps that match a form: the steps of the line match none.
     Steps,
     /// This answer, instead of the line's.
     Answer(Answer),

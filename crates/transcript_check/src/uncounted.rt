@@ -13,7 +13,7 @@ pub(crate) struct VisitOf {
     pub(crate) line: usize,
 }
 
-// A lane's place in the order of lanes: the pool, the base, and then the CPUs.
+// A lane's number in the order of lanes: first the pool, then the base, and then the CPUs.
 fn lane_rank(lane: LaneId) -> u64 {
     match lane {
         LaneId::Pool => 0,

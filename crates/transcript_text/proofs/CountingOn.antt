@@ -8,8 +8,7 @@ use Rattle.transcript_text.specs.ReadTexts.{HasMoreLines, IsPassed}
 use Rattle.transcript_text.proofs.GroupedLines.{groups_next, groups_push}
 use Rattle.transcript_text.proofs.ReadingOn.{goes_on, gives_so_far, found}
 
--- `next` and `last` have the same lines as `done` and `current`, grouped by caller, but `caller` is now the current
--- caller
+-- `next` and `last` have the lines of `done` and `current`, grouped by caller, with `caller` as the current caller
 record Grown (done : List (List SeenLine)) (current : List SeenLine) (caller : ℕ) : Type 0 where
   next : List (List SeenLine)
   last : List SeenLine

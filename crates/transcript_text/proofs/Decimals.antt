@@ -1,4 +1,4 @@
--- How many digits a number has, and what a text is after a number is written over a part of it.
+-- How many digits a number has, and what a text becomes if a number is written over a part of it.
 use Rattle.std.proofs.Common.{ℕ, zero, suc, ◌≡◌, ◌+◌, ◌*◌, ◌/◌, ◌%◌, ◌^◌, ◌≤◌, ◌<◌, List, [], ◌∷◌, ◌++◌, length, take, drop, ap, ◌∙◌, length-append, arith}
 use Rattle.std.specs.Prelude.{decimal}
 use Rattle.std.proofs.Math.Nat.{pow-succ'}

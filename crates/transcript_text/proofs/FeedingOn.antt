@@ -136,8 +136,8 @@ module _ (s next : SoFar) (line : List ℕ) (most : next.most ≡ s.most) (lines
   passed_or_none (Ok false) many none = none
   passed_or_none (Err e) many none = tt
 
--- if `line` is neither the last line, `end`, nor a line that a caller may have next, `line` is the first fault,
--- whatever follows
+-- if `line` is neither the last line, `end`, nor a caller's line that may come next, `line` is the first fault,
+-- whatever text follows
 pub no_line : (s next : SoFar) (text line following : List ℕ) → HasEmitted s text (line ++ 10 ∷ following)
     → lacks 10 line ≡ true → (line ≡ line_end → ⊥) → IsNoLine line (vec_len s.done) → next.lines ≡ s.lines
     → ConformsAs (Faulty (next.lines + 2)) next text following

@@ -269,8 +269,8 @@ one_transcript text a b s t =
 
 -- ---- a text has at most one first faulty line
 
--- if the same text begins with the lines `a` and with the lines `b`, and `b` has more lines, `b` is `a`, then the
--- text's next line, then perhaps more
+-- let a text begin with the lines `a` and also with the lines `b`, and let `b` have more lines. Then `b` is `a`, the
+-- text's next line, and perhaps more lines
 next_front : (a b : List (List ℕ)) (r s : List ℕ) → AllLack a → AllLack b → lined a ++ r ≡ lined b ++ s
     → length a < length b
     → (line : List ℕ) × ((more : List (List ℕ)) × ((b ≡ a ++ line ∷ more)

@@ -1,4 +1,4 @@
--- A text begins with at most one lane, visit or step, if the byte after it is not a digit.
+-- A text begins with at most one lane that no digit follows. The same holds of visits and of steps.
 use Rattle.std.proofs.Common.{◌≡◌, ℕ, ◌-◌, ◌^◌, ◌<◌, ◌≤◌, ◌⊎◌, inl, inr, List, [], ◌∷◌, ◌++◌, length, refl, sym, ap, subst, ◌∙◌, append_assoc, arith}
 use Rattle.std.specs.Prelude.{decimal}
 use Rattle.std.specs.List.{flat_map, AllByRecursion}

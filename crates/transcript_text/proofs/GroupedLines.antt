@@ -61,7 +61,7 @@ finished callers done current lines is fits g = record {
   all = ap all_lines is ∙ all_lines-push done current ∙ g.whole;
 }
 
--- if `caller` is finished after the callers in `old`, its lines come after theirs
+-- if `caller` is finished after the callers in `old`, its lines come after the lines of those callers
 pub seen_callers-push : (old new : List CallerLines) (caller : CallerLines) (lines : List SeenLine)
     → new ≡ old ++ caller ∷ [] → caller.lines ≡ lines
     → seen_callers new ≡ seen_callers old ++ lines ∷ []

@@ -47,7 +47,8 @@ pub left_of_bytes : (n : ℕ) (shown : List ℕ) → 0 < length shown
     → data_left n (bytes_or_none shown) ≡ encode_lower (drop n shown)
 left_of_bytes n shown some = ap (data_left n) (some_bytes shown some) ∙ bytes_left n shown
 
--- if the first `n` bytes were put before, and now the next `count` bytes, the bytes after these remain to be put
+-- if the first `n` bytes were put before, and the next `count` bytes are in this piece, the bytes after both remain to
+-- be put
 pub bytes_on : (n count : ℕ) (shown rest front piece new : List ℕ) → rest ≡ drop n shown → front ≡ take count rest
     → new ≡ piece ++ encode_lower front
     → new ++ encode_lower (drop (n + count) shown) ≡ piece ++ encode_lower (drop n shown)

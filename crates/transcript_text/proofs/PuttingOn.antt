@@ -9,7 +9,7 @@ use Rattle.transcript_text.specs.Putting.{PutSoFar}
 abbrev Known : Type 0
 Known = Option (List ℕ)
 
--- if `x` and then `y` remain to be put, and a part of `x` is put, then the rest of `x` and then `y` remain to be put
+-- if `x` and then `y` remain to be put, and the first part of `x` is put, the other part of `x` and then `y` remain
 goes_on : (a b c : Known) (whole x y rest : List ℕ) → PutSoFar a b whole (x ++ y) → PutSoFar b c x rest
     → PutSoFar a c whole (rest ++ y)
 goes_on a b c whole x y rest p q = record {

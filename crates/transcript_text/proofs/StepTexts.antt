@@ -273,7 +273,7 @@ pub after_read : (text rest : List ℕ) (read all : List Step) → StepsRead tex
 after_read text rest read all so_far fits e =
     steps_after read all rest so_far.each fits.each (some_steps text all so_far.some e) (sym so_far.whole ∙ e)
 
--- if twenty steps with a comma after each were read, `text` does not spell at most twenty steps
+-- if twenty steps were read from `text`, with a comma after each, `text` is not the text of twenty steps or fewer
 pub too_many : (text rest : List ℕ) (read : List Step) → StepsRead text read rest → 20 ≤ length read
     → (all : List Step) → StepsFit all → text ≡ steps_text all → ⊥
 too_many text rest read so_far many all fits e =

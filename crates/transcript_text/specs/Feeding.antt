@@ -12,7 +12,7 @@ use Rattle.transcript_text.specs.declared.parsing.so_far.TranscriptStage.TheVari
 
 -- ---- the lines of a text that was read in part
 
--- the callers' numbers of the lines never fall; each is at least `least` and below 64, and each line fits
+-- the caller numbers of the lines never fall, and each is at least `least` and below 64; each line fits a transcript
 abbrev pub Rising : ℕ → List SeenLine → Type 0
 Rising least [] = ⊤
 Rising least (line ∷ lines) = (least ≤ line.caller) × (line.caller < 64) × LineFits line × Rising line.caller lines
@@ -69,8 +69,8 @@ pub record HasEmitted (s : SoFar) (text rest : List ℕ) : Type 0 where
 abbrev pub with_line : SoFar → SoFar
 with_line s = record s { lines = s.lines + 1 }
 
--- at this stage, `text` is the lines that were read, and then `rest`. If `text` is faulty, the stage has the number of
--- its first fault, whatever follows
+-- the stage is right: `text` is the lines that were read, and then `rest`; or `text` is faulty, and the stage has the
+-- number of its first faulty line, whatever text follows
 abbrev pub ConformsAs : TranscriptStage → SoFar → List ℕ → List ℕ → Type 0
 ConformsAs Head s text rest = IsUnread s × (text ≡ rest)
 ConformsAs Lines s text rest = HasEmitted s text rest
@@ -90,6 +90,6 @@ pub record IsAfter (text : List ℕ) (reader : TranscriptReader) (unread : List 
 abbrev pub HasFed : List ℕ → TranscriptReader → Type 0
 HasFed text reader = IsAfter text reader []
 
--- the limit of the number of callers' lines that the reader keeps
+-- the most lines of callers that the reader keeps
 abbrev pub most_lines : TranscriptReader → ℕ
 most_lines reader = reader.so_far.most

@@ -11,8 +11,8 @@ use Rattle.transcript_text.specs.declared.view.Shown.{Shown}
 use Rattle.transcript_text.specs.declared.view.Shown.TheVariants.{None as ShowsNone, Bytes as ShowsBytes, Count as ShowsCount}
 use Rattle.transcript_text.specs.declared.view.LineView.{LineView}
 
--- the lines that were added, all their bytes and all their steps in the order in which they were added, and how many
--- more lines, bytes and steps have room
+-- the lines of a caller, and all bytes and all steps in the order in which they were added. The other fields are the
+-- numbers of lines, bytes and steps for which there is still room
 pub record Gathered : Type 0 where
   pub lines : List SeenLine
   pub bytes : List ℕ
@@ -21,7 +21,7 @@ pub record Gathered : Type 0 where
   pub byte_room : ℕ
   pub step_room : ℕ
 
--- if a line's data are bytes, they are at least one, and all of them are among the first `n` kept bytes
+-- if a line's data are bytes, there is at least one byte, and all bytes are among the first `n` kept bytes
 abbrev pub IsWithin : ℕ → Data → Type 0
 IsWithin n (Bytes len start) = (0 < len) × (start + len ≤ n)
 IsWithin n _ = ⊤

@@ -33,8 +33,8 @@ abbrev pub HasShown : ℕ → List SeenLine → Type 0
 HasShown shown [] = shown ≡ 0
 HasShown shown (line ∷ lines) = shown ≤ length (bytes_in line.shown)
 
--- the text that remains for `callers`, after the first `line` lines of the first caller, and `shown` data bytes of that
--- caller's next line, were put
+-- the text that remains for `callers`. The first `line` lines of the first caller were put before, and then the first
+-- `shown` data bytes of this caller's next line
 abbrev pub callers_left : ℕ → ℕ → List (List SeenLine) → List ℕ
 callers_left line shown [] = codes "end\n"
 callers_left line shown (lines ∷ callers) = lines_left shown (drop line lines) ++ callers_text callers

@@ -38,7 +38,7 @@ abbrev pub FitsShowing : ReadLine → Type 0
 FitsShowing read = (shown : Shown) → ShownFits read.word shown → read.shown.now ≡ shown_text shown
     → LineFits (seen_read read shown)
 
--- `text` spells the line `read` with the data that its last field spells, and spells no other line
+-- `text` spells the line `read`, with the data that the last field of `read` spells, and spells no other line
 pub record IsRead (text : List ℕ) (read : ReadLine) : Type 0 where
   pub fits : FitsShowing read
   pub spelt : (shown : Shown) → read.shown.now ≡ shown_text shown → text ≡ line_text (seen_read read shown)

@@ -14,8 +14,8 @@ pub record HasMoreLines (most : ℕ) (text : List ℕ) : Type 0 where
   pub is_text : IsTranscriptText text callers
   pub many : most < length (all_lines callers)
 
--- the result of reading `text` is right: its transcript, with at most `most` lines; its first faulty line; that its
--- transcript has more lines; or that memory ran out
+-- the result of reading `text` is right. It is the transcript with this text, which has at most `most` lines; or the
+-- first faulty line; or the error that the transcript has more lines; or the error that memory ran out
 abbrev pub Answers : ℕ → List ℕ → Result (List (List SeenLine)) TextError → Type 0
 Answers most text (Ok callers) = IsTranscriptText text callers × (length (all_lines callers) ≤ most)
 Answers most text (Err (Fault line)) = IsFirstFault text line
@@ -46,7 +46,8 @@ abbrev pub IsNoLine : List ℕ → ℕ → Type 0
 IsNoLine text least = (line : SeenLine) → LineFits line → least ≤ line.caller → line.caller < 64
     → text ≡ line_text line → ⊥
 
--- `text` spells the line `read` with the data that its last field spells; the line's caller is from `least` to 63
+-- `text` spells the line `read`, with the data that the last field of `read` spells; the line's caller is from `least`
+-- to 63
 pub record IsReadFrom (text : List ℕ) (least : ℕ) (read : ReadLine) : Type 0 where
   pub is : IsRead text read
   pub later : least ≤ read.caller

@@ -11,7 +11,7 @@ bytes_of NoData = []
 bytes_of (Bytes shown) = shown.now
 bytes_of (Count n) = []
 
--- a line's data with the borrowed bytes in them, as the definitions of a transcript have them
+-- a line's data in the form that the definitions of a transcript use, with the bytes themselves instead of a borrow
 abbrev pub seen_shown : Shown → SeenShown
 seen_shown NoData = no_data
 seen_shown (Bytes shown) = bytes_or_none shown.now

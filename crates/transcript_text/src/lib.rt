@@ -1,9 +1,9 @@
 //! The text of a transcript (docs/TRANSCRIPT.md), written and read. Whether a transcript is lawful is not checked here.
 //!
-//! [`TranscriptReader`] reads the text piece by piece, and [`read`] a whole text. [`write_all`] writes a transcript, and a
-//! [`LineWriter`] line by line. [`CallerLines`] keeps the lines of a caller in memory that was allocated before. The
-//! contracts use the grammar of `key_names` (`specs/Texts`). The code uses the readers of words and numbers of
-//! `event_script`, and the sinks of `io_edges`.
+//! [`TranscriptReader`] reads the text piece by piece, and [`read`] a whole text. [`write_all`] writes a whole
+//! transcript, and a [`LineWriter`] writes line by line. [`CallerLines`] keeps the lines of a caller in memory that was
+//! allocated before. The contracts use the grammar of `key_names` (`specs/Texts`). The code uses the readers of words
+//! and numbers of `event_script`, and the sinks of `io_edges`.
 //!
 //! # Example
 //!

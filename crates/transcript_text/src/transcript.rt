@@ -33,8 +33,8 @@ impl Transcript {
         ensures lines { result ≡ map (λ c. c.lines) callers.items }
         ensures fits { TranscriptFits result }
     {
-        // The call of `lines` is for its contract: it ensures that a caller's lines fit, as this type's invariant
-        // requires.
+        // `lines` is called only for its contract, which ensures that a caller's lines fit. This type's invariant
+        // requires that.
         for caller in &callers {
             let _lines = caller.lines();
         }

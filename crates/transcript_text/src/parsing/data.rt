@@ -23,8 +23,8 @@ fn is_bits(word: Word) -> bool
     matches!(word, Word::Bits)
 }
 
-/// Appends the bytes that `text`, in hex digits, spells. They are decoded in pieces, so that no byte is stored twice.
-/// Returns false if `text` spells no bytes; even then some bytes may have been appended.
+/// Appends the bytes that `text` spells in hex digits. A long text is decoded in pieces, so that it needs no second
+/// buffer of its length. Returns false if `text` spells no bytes; even then some bytes may have been appended.
 fn append_bytes(alloc: Global, kept: &mut Vec<u8>, text: &[u8]) -> Result<bool, AllocError>
     ensures spelt { IfOk result (λ spells. MatchBool spells (AppendsSpelt text.now kept.old.items kept.new.items)
         (bytes_spelt text.now ≡ None)) }
@@ -52,7 +52,7 @@ fn append_bytes(alloc: Global, kept: &mut Vec<u8>, text: &[u8]) -> Result<bool, 
     Ok(true)
 }
 
-/// Appends the bytes that `text`, in hex digits, spells, and returns the data of a line with these bytes. `None` if
+/// Appends the bytes that `text` spells in hex digits, and returns the data of a line with these bytes. `None` if
 /// `text` spells no bytes.
 fn keep_bytes(alloc: Global, kept: &mut Vec<u8>, text: &[u8]) -> Result<Option<Data>, AllocError>
     requires { length text.now < 2 ^ 32 }

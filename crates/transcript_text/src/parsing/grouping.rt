@@ -1,4 +1,4 @@
-//! The lines of a transcript in sequence, grouped by their callers.
+//! Groups the lines of a transcript by caller, as they come in sequence.
 ghost use Rattle.std.specs.Prelude.{◌≡◌, ◌<◌, ◌≤◌, [], List, vec_len, OnOk, IfOk};
 ghost use Rattle.key_names.specs.Transcripts.SeenLine.{SeenLine};
 ghost use Rattle.transcript_text.specs.Grouping.{Groups, Gives, seen_callers};

@@ -11,7 +11,7 @@ use crate::parsing::steps::steps_of;
 use event_script::numbers::number_front;
 use key_names::{Answer, Step, Trace, Word};
 
-/// The caller's number and the event's number, as a line begins with them.
+/// The first field of a line: the caller's number and the event's number.
 #[derive(Clone, Copy)]
 struct LineNumbers {
     caller: u32,

@@ -35,7 +35,7 @@ impl TranscriptReader {
         })
     }
 
-    // Reads `end`, the rest of the line that `rest` begins, without the line feed.
+    // Reads a line. Its first bytes are in `self.rest`, and `end` is the rest of the line, without the line feed.
     fn end_line(&mut self, alloc: Global, end: &[u8]) -> Result<(), AllocError>
         requires short { length self.old.rest.items + length end.now < 2 ^ 31 }
         requires few { self.old.so_far.lines < 2 ^ 31 }
@@ -71,7 +71,7 @@ impl TranscriptReader {
         Ok(())
     }
 
-    /// The transcript whose text was fed in all. The text has at most 2^31 bytes.
+    /// The transcript whose text is all that was fed. The text has at most 2^31 bytes.
     ///
     /// # Errors
     ///

@@ -107,7 +107,7 @@ impl SoFar {
         Ok(TranscriptStage::Lines)
     }
 
-    // The stage after `line` was read, whatever the stage before.
+    // The stage after `line` was read, from any earlier stage.
     fn following(&mut self, alloc: Global, line: &[u8]) -> Result<TranscriptStage, AllocError>
         requires short { length line.now < 2 ^ 31 }
         requires few { self.old.lines < 2 ^ 31 }
@@ -139,7 +139,7 @@ impl SoFar {
         Ok(())
     }
 
-    /// The transcript of a text of which everything was read, with `end` as its last line.
+    /// The transcript of a text that was read to its end, with `end` as the last line.
     ///
     /// # Errors
     ///

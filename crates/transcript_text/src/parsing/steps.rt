@@ -14,7 +14,7 @@ use key_names::{LaneId, Mark, Step, Trace};
 /// Generations, places and stamps are at most this.
 const MOST_NUMBER: u64 = (1 << 63) - 1;
 
-/// The lane that the front of `text` spells, and the rest of `text`.
+/// The lane that `text` begins with, and the rest of `text`.
 fn lane_front(text: &[u8]) -> Option<(LaneId, &[u8])>
     ensures { MatchOption result (NoFront lane_text LaneFits text.now)
         (λ both. IsFront lane_text LaneFits text.now both.0 both.1.now) }
@@ -31,7 +31,7 @@ fn lane_front(text: &[u8]) -> Option<(LaneId, &[u8])>
     }
 }
 
-/// The visit of a lane that the front of `text` spells, and the rest of `text`.
+/// The visit that `text` begins with, and the rest of `text`.
 fn mark_front(text: &[u8]) -> Option<(Mark, &[u8])>
     ensures { MatchOption result (NoFront mark_text MarkFits text.now)
         (λ both. IsFront mark_text MarkFits text.now both.0 both.1.now) }
@@ -48,7 +48,7 @@ fn mark_front(text: &[u8]) -> Option<(Mark, &[u8])>
     Some((Mark { lane, place, stamp }, rest))
 }
 
-/// The step that the front of `text` spells, and the rest of `text`.
+/// The step that `text` begins with, and the rest of `text`.
 fn step_front(text: &[u8]) -> Option<(Step, &[u8])>
     ensures { MatchOption result (NoFront step_text StepFits text.now)
         (λ both. IsFront step_text StepFits text.now both.0 both.1.now) }
@@ -66,8 +66,8 @@ fn step_front(text: &[u8]) -> Option<(Step, &[u8])>
     }
 }
 
-/// The steps that a text spells: a dash for none, otherwise at most 20 with commas between them. They replace the
-/// content of the trace.
+/// The steps that a text spells: no steps if the text is a dash, otherwise at most 20 with commas between them. The
+/// steps replace the content of `trace`.
 pub(crate) fn steps_of<'t>(text: &[u8], trace: &'t mut Trace) -> Option<&'t [Step]>
     ensures { Reads steps_text StepsFit text.now (option_map (λ steps. steps.now) result) }
 {

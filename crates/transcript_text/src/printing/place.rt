@@ -1,4 +1,4 @@
-//! Positions in the text of a transcript, whose text is made piece by piece.
+//! Positions in the text of a transcript. The text is made piece by piece, from each position to the next.
 ghost use Rattle.std.specs.Prelude.{◌≡◌, ◌<◌, ◌≤◌, ◌^◌, ◌++◌, [], List, codes, drop, length, slice_get, IfSome, IsTrue, IsFalse, MatchBool};
 ghost use Rattle.hex.specs.Hex.{encode_lower};
 ghost use Rattle.key_names.specs.Transcripts.SeenLine.{SeenLine, bytes_in};
@@ -26,15 +26,15 @@ pub(crate) enum TextAfter {
 #[derive(Clone, Copy)]
 pub(crate) struct TextPosition {
     pub(crate) coming: TextAfter,
-    // The caller of the next line, the number of that line among this caller's lines, and how many bytes of its data
-    // were put in pieces. If a part of the line was put before, at least one byte of its data was.
+    // The caller of the next line, the number of this line among the caller's lines, and how many bytes of the line's
+    // data were put in pieces. If a part of the line was put, this part has at least one byte of the data.
     pub(crate) caller: u32,
     pub(crate) line: usize,
     pub(crate) shown: usize,
 }
 
 // The hints inline these functions into the loop over the pieces. With a call for each line, the position would be kept
-// in memory.
+// in memory, not in registers.
 impl TextPosition {
     /// The position before the first byte of the text.
     pub(crate) fn start() -> TextPosition
@@ -58,7 +58,7 @@ impl TextPosition {
         matches!(self.coming, TextAfter::Nothing)
     }
 
-    // Puts the next line up to its data in the piece, unless that was put in an earlier piece.
+    // Puts the text of the next line up to its data in the piece, unless an earlier piece has this text.
     #[tactic(auto, using(crate::proofs::Places::head_put, crate::proofs::Places::begun))]
     #[inline(always)]
     fn begin(self, lines: &CallerLines, piece: &mut Piece)
@@ -74,7 +74,7 @@ impl TextPosition {
     }
 
     // Puts as many of a line's remaining bytes as the piece has room for. Returns whether these are all remaining
-    // bytes.
+    // bytes, and the piece also has room for the line feed.
     fn show_bytes(&mut self, bytes: &[u8], piece: &mut Piece) -> bool
         requires room { length piece.old ≤ 2048 }
         requires within { self.old.shown ≤ length bytes.now }
@@ -99,7 +99,7 @@ impl TextPosition {
     }
 
     // Puts as much of a line's remaining data as the piece has room for. Returns whether this is all of the remaining
-    // data.
+    // data, and the piece also has room for the line feed.
     #[tactic(auto, using(crate::proofs::Places::left_of_bytes, crate::proofs::Places::none_shown), unfolding(key_names::specs::Texts::TranscriptGrammar::shown_text))]
     #[inline(always)]
     pub(crate) fn show(&mut self, shown: Shown<'_>, piece: &mut Piece) -> bool
@@ -129,7 +129,7 @@ impl TextPosition {
         }
     }
 
-    // Puts the next part of the current line in the piece, up to the line's end if there is room.
+    // Puts the next part of the current line in the piece. If there is room, this part reaches the line's end.
     #[inline(always)]
     fn next_of_line(&mut self, lines: &CallerLines, piece: &mut Piece)
         requires some { self.old.line < length lines.now.lines }

@@ -12,7 +12,7 @@ one [] word some few is = absurd (omega arith)
 one (w ∷ []) word some few is = ap (λ v. string_bytes v ∷ []) (sym is)
 one (w ∷ v ∷ words) word some few is = absurd (omega arith)
 
--- if `answer` states whether the only word equals `form`, it is true exactly if the words are `form` alone
+-- if `answer` is whether the only word equals `form`, `answer` is true exactly if the words are `form` alone
 both : (form text bytes : List ℕ) (answer : Bool) (all : List (List ℕ)) → text ≡ bytes → all ≡ bytes ∷ [] →
     answer ≡ bytes_eq text form →
     (IsTrue answer → all ≡ form ∷ []) × (all ≡ form ∷ [] → IsTrue answer)
