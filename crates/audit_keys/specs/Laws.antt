@@ -13,8 +13,8 @@ use Rattle.audit_keys.specs.Outline.{IsBetweenCalls}
 use Rattle.audit_keys.specs.Left.{Left, vread_left}
 use Rattle.audit_keys.specs.Callers.{lists_left}
 
--- `new` has the entries of `old` and then those of the vread's meaning `m`, and the outline of the state after the
--- vread
+-- the entries of `new` are the entries of `old`, and then the entries of the vread's meaning `m`. The outline of `new`
+-- is the outline of the state after the vread
 pub record Leaves (m : CallMeaning) (old new : Left) : Type 0 where
   pub entries : new.entries ≡ old.entries ++ m.entries
   pub state : VgetrandomState
