@@ -25,7 +25,7 @@ use Rattle.audit_keys.specs.Left.{key_read, second_key, key_in_front, or_key}
 module _ (lists : Lists) where
   -- ---- the step by which a system call reads a key ----
 
-  -- `step` reads a key exactly if its effect is a visit of a CPU, and then reads it from that visit
+  -- `step` reads a key exactly if its effect is a visit of a CPU; the key read is then that of this visit
   abbrev Tells : Effect → Step → Type 0
   Tells (looked g) step = step ≡ Look g
   Tells (at_pool v) step = key_read step ≡ None

@@ -1,5 +1,5 @@
--- The lists of the book at a moment are beginnings of the whole book's lists. So keys and rests that are held at the
--- moment were not used before it.
+-- The lists of the book at a moment are beginnings of the whole book's lists. So keys and rests that are held at this
+-- moment were not used before this moment.
 use Rattle.std.proofs.Common.{◌≡◌, ℕ, zero, suc, ◌+◌, ◌<◌, Bool, true, false, cond, List, [], ◌∷◌, ◌++◌, inl, inr, refl, sym, ap, ◌∙◌, arith, take, append_assoc}
 use Rattle.std.specs.Prelude.{map, nat_le, ◌==◌, if◌then◌else◌}
 use Rattle.std.specs.List.{AllByRecursion}

@@ -57,7 +57,7 @@ module _ (lane : LaneId) where
       go true rest = ap (λ ms. by.mark ∷ ms) rest
       go false rest = rest
 
-  -- if `Q` holds for each mark with its own lane, it holds for each mark of `lane` with `lane`
+  -- if `Q` holds for each mark with the mark's own lane, `Q` holds with `lane` for each mark of `lane`
   all_on : (Q : LaneId → MarkBy → Type 0) (marks : List MarkBy) → AllByRecursion (λ by. Q by.mark.lane by) marks →
       AllByRecursion (λ by. Q lane by) (marks_on lane marks)
   all_on Q [] all = tt
