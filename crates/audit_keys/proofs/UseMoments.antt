@@ -40,7 +40,7 @@ above_too stamp low [] lt above = tt
 above_too stamp low (h ∷ hs) lt above = (let le = above.0 in omega arith, above_too stamp low hs lt above.1)
 
 module _ {E : Type 0} (lane : LaneId) (stamp : ℕ) where
-  -- if all visits of a lane have stamps above `stamp`, none of them is up to `stamp`
+  -- if all visits of a lane have stamps above `stamp`, the lane has no visits up to `stamp`
   none_to : (i : ℕ) (visits : List (Visit E)) → AllByRecursion (λ h. stamp < h.stamp) (visits_from lane i visits) →
       visits_to stamp visits ≡ []
   none_to i [] above = refl

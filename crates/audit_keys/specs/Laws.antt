@@ -1,5 +1,5 @@
--- The entries that calls leave are those of the calls' meanings. Functions in src/state_laws.rt state `VreadLeaves` and
--- `CallsLeave`. The contract of `state_lists` in src/lists.rt states `AreStateLists`.
+-- The entries that calls leave are the entries of the calls' meanings. Functions in src/state_laws.rt state
+-- `VreadLeaves` and `CallsLeave`. The contract of `state_lists` in src/lists.rt states `AreStateLists`.
 use Rattle.std.specs.Prelude.{ℕ, ◌≡◌, List, ◌++◌, map}
 use Rattle.key_names.specs.declared.entries.VEntry.{VEntry}
 use Rattle.key_names.specs.Lanes.Book.{Lists}

@@ -23,7 +23,8 @@ use Rattle.key_audit.specs.Moments.{MarksVisits, marks_on, moment_by, moments_on
 abbrev ConformsIn : {E : Type 0} → List (Visit E) → MarkBy → Type 0
 ConformsIn visits by = stamped visits by.mark.place ≡ Some (by.mark.stamp, by.who)
 
--- if the places of the marks `bys` count up from `i`, their moments are those of `rest`, the visits from place `i` on
+-- if the places of the marks `bys` count up from `i`, the moments of `bys` are the moments of `rest`, the visits from
+-- place `i` on
 counted : {E : Type 0} (i : ℕ) (whole rest : List (Visit E)) (bys : List MarkBy) →
     ((j : ℕ) → stamped rest j ≡ stamped whole (i + j)) → length bys ≡ length rest →
     InOrder i (map (λ by. by.mark) bys) → AllByRecursion (ConformsIn whole) bys → map moment_by bys ≡ visit_moments rest

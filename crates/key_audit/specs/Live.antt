@@ -70,7 +70,7 @@ live_keys lists =
     ++ listed_below (length lists.callers) (λ caller. listed_below (length (list_at lists.callers caller))
     (λ state. held_key (State (record { caller = caller; state = state })) (live_key lists (state_key caller state))))
 
--- the unserved rests in memory that have bytes: those of each CPU's batch for each width, and of each vgetrandom
+-- the unserved rests in memory that have bytes: the rests of each CPU's batch for each width, and of each vgetrandom
 -- state's batch
 abbrev pub live_rests : Lists → List HeldRest
 live_rests lists =
