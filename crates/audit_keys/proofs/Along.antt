@@ -1,5 +1,5 @@
--- If the code goes along a list and appends the results of each entry, it has appended `listed_from` of the whole list
--- at the end.
+-- The code goes along a list and appends the results of each entry. At the end it has appended `listed_from` of the
+-- whole list.
 use Rattle.std.proofs.Common.{◌≡◌, ◌≤◌, ◌<◌, ◌+◌, ℕ, List, [], ◌∷◌, ◌++◌, length, take, get_or, Some, refl, sym, ap, ◌∙◌, append_assoc, append-nil}
 use Rattle.std.specs.Prelude.{map, slice_get}
 use Rattle.std.specs.List.{fold}
@@ -51,8 +51,8 @@ module _ {S E T : Type 0} (tells : S → E → List T) (step : S → E → S) wh
     listed_all place old now all h =
         h ∙ ap (λ es. old ++ listed_from tells step start es) (take_all place entries all)
 
-    -- suppose that `mid` equals `now`, which has the results of the entries before `place`. If those of the entry at
-    -- `place` are appended, `new` has the results of the entries before `place + 1`
+    -- suppose that `mid` equals `now`, which has the results of the entries before `place`. If the results of the entry
+    -- at `place` are appended, `new` has the results of the entries before `place + 1`
     pub listed_after : (place : ℕ) (e : E) (old now mid new : List T) → slice_get entries place ≡ Some e →
         IsListed place old now → mid ≡ now → new ≡ mid ++ tells (fold step start (take place entries)) e →
         IsListed (place + 1) old new

@@ -23,8 +23,8 @@ use Rattle.audit_keys.specs.Left.{Left, After, met, copied, keyed, with_key, fro
 use Rattle.audit_keys.proofs.Outlines.{generation_test, same_entries, same_block, copy_outline, met_outline, met_entries}
 use Rattle.audit_keys.proofs.KeySteps.{FirstStep, first_step, key_listed}
 
--- `b` ends as the attempt `a` does, followed by the steps `rest`. Its entries are `before` and then those of `a`; its
--- outline is that of the state that `a` leaves
+-- `b` ends as the attempt `a` does, and `rest` are the steps after the attempt. The entries of `b` are `before` and
+-- then the entries of `a`. The outline of `b` is the outline of the state that `a` leaves
 pub record Gives (before : List VEntry) (rest : List Step) (a : Attempt) (b : After) : Type 0 where
   pub entries : b.left.entries ≡ before ++ a.entries
   pub outline : IsOutline b.left.outline a.state
@@ -38,8 +38,8 @@ gives_at before rest a a' b b' p q g =
     let P : Attempt → Type 0 = λ x. Gives before rest x b in let Q : After → Type 0 = λ x. Gives before rest a' x in
     subst P (sym p) (subst Q (sym q) g)
 
--- suppose that the entries of `b` are `before`, `es` and those of the attempt `a`, and that `b` otherwise ends as `a`
--- does. Then `Gives` holds after `before` for `a` with `es` in front of its entries
+-- suppose that the entries of `b` are `before`, then `es`, then the entries of the attempt `a`. Suppose that `b`
+-- otherwise ends as `a` does. Then `Gives` holds after `before` for `a` with `es` in front of its entries
 gives_after : (es before now : List VEntry) (rest : List Step) (a : Attempt) (b : After) → now ≡ before ++ es →
     Gives now rest a b → Gives before rest (prefix_attempt es a) b
 gives_after es before now rest a b more g = record {

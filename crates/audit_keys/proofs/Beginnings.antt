@@ -1,5 +1,5 @@
 -- If each list of a book is cut to a beginning, no byte of a key or rest that is held after these beginnings was used
--- in them. A rest is the bytes of a batch that were not served.
+-- in the beginnings. A rest is the bytes of a batch that were not served.
 use Rattle.std.proofs.Common.{◌≡◌, ℕ, ◌+◌, ◌-◌, ◌*◌, ◌++◌, List, [], ◌∷◌, length, Option, Some, None, inl, inr, refl, sym, subst, ap, ◌∙◌, arith}
 use Rattle.std.specs.Prelude.{Bool, true, false, slice_get, option_and_then}
 use Rattle.std.specs.List.{fold}
@@ -133,7 +133,7 @@ module _ (whole part : Lists) (lanes : ForwardLawful whole) (states : LawfulStat
           let P : Option Taken → Type 0 = λ o. IsLong o in
           subst P (sym (named_front taken_of (cpu_list whole c) (cpu_list part c) i taken (begins.cpus c) is)) long
 
-  -- a name that the beginning of a CPU's list gives a key is the name of one of the CPU's own keys
+  -- if the beginning of a CPU's list gives a key a name, this is the name of one of the CPU's own keys
   cpu_own : (c : ℕ) (k : KeyName) → cpu_names.IsLater whole.base c (taken_at (cpu_list part c)) 0 k →
       Own whole (cpu_key c) k
   cpu_own c (Root r) later = later
@@ -144,7 +144,7 @@ module _ (whole part : Lists) (lanes : ForwardLawful whole) (states : LawfulStat
   cpu_own c (Call (CpuLane d) i) later = (later.0, later.1, long_front c i later.2)
   cpu_own c (Vdso caller state n) later = later
 
-  -- a name that the beginning of a state's list gives a key is the name of one of the state's own keys
+  -- if the beginning of a state's list gives a key a name, this is the name of one of the state's own keys
   state_own : (caller state : ℕ) (k : KeyName) →
       state_side.IsLater caller state (rekey_at (state_list part caller state)) 0 0 k →
       Own whole (state_key caller state) k

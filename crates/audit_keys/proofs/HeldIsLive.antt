@@ -27,7 +27,7 @@ all_of_each P tells [] all = All-nil P
 all_of_each P tells (n ∷ ns) all =
     All-append P (tells n) (flat_map tells ns) (all n) (all_of_each P tells ns all)
 
--- the results for the `n` numbers from `a` on include those for the number `a + j`
+-- the results for the `n` numbers from `a` on include the results for the number `a + j`
 one_of_each : {T : Type 0} (tells : ℕ → List T) (a n j : ℕ) (x : T) → j < n → Contains (tells (a + j)) x →
     Contains (flat_map tells (range_with_len a n)) x
 one_of_each tells a zero j x below is = absurd (omega arith)
@@ -131,7 +131,7 @@ module _ (lists : Lists) where
   rests_live : All RestLive (book_tells lists).rests
   rests_live = All-append RestLive (cpus_tell lists).rests (callers_tell lists).rests cpu_rests_live state_rests_live
 
-  -- the results for one vgetrandom state are among those for all states of all callers
+  -- the results for one vgetrandom state are among the results for all states of all callers
   one_state : {T : Type 0} (tells : ℕ → ℕ → List T) (caller state : ℕ) (x : T) → caller < length lists.callers →
       state < length (list_at lists.callers caller) → Contains (tells caller state) x →
       Contains (listed_below (length lists.callers)

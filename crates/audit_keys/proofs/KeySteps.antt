@@ -25,7 +25,8 @@ use Rattle.audit_keys.specs.Left.{key_read, second_key, key_in_front, or_key}
 module _ (lists : Lists) where
   -- ---- the step by which a system call reads a key ----
 
-  -- `step` reads a key exactly if its effect is a visit of a CPU, and then reads it from that visit
+  -- if the effect of `step` is a visit of a CPU, `step` reads the key of this visit. If the effect is a look, or a
+  -- visit of the pool or of the base, `step` reads no key
   abbrev Tells : Effect → Step → Type 0
   Tells (looked g) step = step ≡ Look g
   Tells (at_pool v) step = key_read step ≡ None

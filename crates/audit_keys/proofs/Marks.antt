@@ -1,5 +1,6 @@
 -- If a vgetrandom state takes the read at a place of a CPU as its key, the code marks this place. After all entries of
--- states, the marks are those of `takes_read`. With these marks the CPU's uses are the same as with `is_rekeyed`.
+-- states, a place of the CPU is marked exactly if `takes_read` is true for this place. With these marks the CPU's uses
+-- are the same as with `is_rekeyed`.
 use Rattle.std.proofs.Common.{◌≡◌, ◌≤◌, ◌<◌, ◌+◌, ℕ, Bool, true, false, List, [], ◌∷◌, ◌++◌, length, take, get_or, refl, sym, ap, ◌∙◌, arith}
 use Rattle.std.specs.Prelude.{◌||◌, map}
 use Rattle.std.specs.Global.{Vec}

@@ -1,5 +1,5 @@
--- If an outline matches a state, the new outline matches the new state after a copy, a wipe or a new key, and both
--- leave the same entries.
+-- Suppose that an outline matches a state. After a copy, a wipe or a new key, the new outline matches the new state,
+-- and the outline and the state give the same entries.
 use Rattle.std.proofs.Common.{◌≡◌, ℕ, zero, suc, ◌+◌, ◌-◌, ◌<◌, Bool, true, false, [], ◌++◌, refl, sym, ap, ◌∙◌, append_assoc, append-nil, arith}
 use Rattle.std.specs.Prelude.{◌==◌, ◌/◌, ◌%◌, nat_le, if◌then◌else◌}
 use Rattle.std.proofs.lemmas.Bool.{eqb-true, eq-eqb}

@@ -172,7 +172,7 @@ list_put (x ∷ xs) zero list new more low is put =
 list_put (x ∷ xs) (suc i) list new more low is put =
     ap (λ ls. x.items ∷ ls) (list_put xs i list new more (omega arith) is put)
 
--- the lists of all callers from number `c` on are those of caller `c`, and then those of the callers after it
+-- the lists of all callers from number `c` on are the lists of caller `c`, and then the lists of the callers after `c`
 pub one_caller : (starts : ℕ → ℕ) (c : ℕ) (calls : List Call) (callers : List (List Call))
     (lists : List (List StateEntry)) → lists ≡ caller_over (starts c) calls →
     all_over starts c (calls ∷ callers) ≡ (lists ∷ []) ++ all_over starts (c + 1) callers

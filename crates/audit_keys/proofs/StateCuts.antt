@@ -185,8 +185,8 @@ by_lists cut [] = refl
 by_lists cut (list ∷ lists) = ap (λ es. entries_by cut list.items ∷ es) (by_lists cut lists)
 
 module _ (cuts : ℕ → Cut) (starts others : ℕ → ℕ) where
-  -- if `starts` and `others` give equal stamps at the start of each caller, the lists that the cuts keep are the same
-  -- with both
+  -- if `starts` and `others` give equal stamps at the start of each caller, the cuts keep the same lists with `starts`
+  -- as with `others`
   cut_all : (c : ℕ) (callers : List (List Call)) (lists : List (Vec (Vec StateEntry))) →
       all_kept lists ≡ all_over starts c callers → ((d : ℕ) → c ≤ d → d < c + length callers → starts d ≡ others d) →
       all_lists_by cuts c lists ≡ lists_made cuts others c callers

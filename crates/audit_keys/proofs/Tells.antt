@@ -51,7 +51,8 @@ all_more tells n = tells_same (all_below (n + 1) tells) (joined (all_below n tel
   uses = below_more (λ i. (tells i).uses) n;
 })
 
--- if the results for `n` are joined to those for the numbers below `n`, they are those for the numbers below `n + 1`
+-- if the results for `n` are joined to the results for the numbers below `n`, the whole is the results for the numbers
+-- below `n + 1`
 pub joined_more : (tells : ℕ → Tells) (n : ℕ) (old now new : Tells) → now ≡ joined old (all_below n tells) →
     new ≡ joined now (tells n) → new ≡ joined old (all_below (n + 1) tells)
 joined_more tells n old now new h more =

@@ -1,5 +1,5 @@
--- The lists of the book at a moment are beginnings of the whole book's lists. So keys and rests that are held at the
--- moment were not used before it.
+-- The lists of the book at a moment are beginnings of the whole book's lists. So keys and rests that are held at this
+-- moment were not used before this moment.
 use Rattle.std.proofs.Common.{◌≡◌, ℕ, zero, suc, ◌+◌, ◌<◌, Bool, true, false, cond, List, [], ◌∷◌, ◌++◌, inl, inr, refl, sym, ap, ◌∙◌, arith, take, append_assoc}
 use Rattle.std.specs.Prelude.{map, nat_le, ◌==◌, if◌then◌else◌}
 use Rattle.std.specs.List.{AllByRecursion}
@@ -40,7 +40,7 @@ above_too stamp low [] lt above = tt
 above_too stamp low (h ∷ hs) lt above = (let le = above.0 in omega arith, above_too stamp low hs lt above.1)
 
 module _ {E : Type 0} (lane : LaneId) (stamp : ℕ) where
-  -- if all visits of a lane have stamps above `stamp`, none of them is up to `stamp`
+  -- if all visits of a lane have stamps above `stamp`, the lane has no visits up to `stamp`
   none_to : (i : ℕ) (visits : List (Visit E)) → AllByRecursion (λ h. stamp < h.stamp) (visits_from lane i visits) →
       visits_to stamp visits ≡ []
   none_to i [] above = refl

@@ -1,4 +1,4 @@
--- If the code goes along a list and appends the uses of each entry, it has the uses of the whole list at the end.
+-- The code goes along a list and appends the uses of each entry. At the end it has the uses of the whole list.
 use Rattle.std.proofs.Common.{◌≡◌, ◌≤◌, ◌+◌, ℕ, List, [], ◌∷◌, ◌++◌, length, take, Some, refl, sym, ap, subst, ◌∙◌, append_assoc, append-nil}
 use Rattle.std.specs.Prelude.{slice_get}
 use Rattle.std.specs.List.{fold}

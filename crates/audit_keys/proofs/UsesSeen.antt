@@ -1,5 +1,5 @@
--- A use that the code lists also has its entry and, if its bytes were kept, the name of the new key. Without these two,
--- the listed uses are the uses of `key_names`.
+-- A use that the code lists also has its entry. If the bytes were kept, it also has the name of the new key. Without
+-- these two, the listed uses are the uses of `key_names`.
 use Rattle.std.proofs.Common.{◌≡◌, ◌+◌, ◌*◌, ℕ, Bool, true, false, List, [], ◌∷◌, ◌++◌, Option, Some, None, refl, ap, ◌∙◌}
 use Rattle.std.specs.Prelude.{nat_lt, if◌then◌else◌}
 use Rattle.std.proofs.lemmas.List.{map-append}

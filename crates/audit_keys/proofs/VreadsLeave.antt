@@ -24,7 +24,8 @@ use Rattle.audit_keys.proofs.Outlines.{same_test, sym_test, generation_test, sam
 use Rattle.audit_keys.proofs.KeySteps.{FirstStep, first_step}
 use Rattle.audit_keys.proofs.AttemptsLeave.{Gives, WipesAre, AttemptLeaves, attempt_leaves}
 
--- `new` has the entries of `l` and then those of `outcome`; the outline of `new` is that of the state of `outcome`
+-- `new` has the entries of `l`, and then the entries of `outcome`. The outline of `new` is the outline of the state of
+-- `outcome`
 pub record CallLeaves (l : Left) (outcome : Outcome) (new : Left) : Type 0 where
   pub entries : new.entries ≡ l.entries ++ outcome.entries
   pub conforms : IsBetweenCalls new.outline outcome.state
@@ -35,7 +36,7 @@ leaves_at l o o' new new' p q h =
     let P : Outcome → Type 0 = λ x. CallLeaves l x new in let Q : Left → Type 0 = λ x. CallLeaves l o' x in
     subst P (sym p) (subst Q (sym q) h)
 
--- if the call `o` leaves no entries, and `l` has the outline of the state after it, `CallLeaves` holds with `l`
+-- if the call `o` leaves no entries, and `l` has the outline of the state after the call, `CallLeaves` holds with `l`
 -- unchanged
 nothing_more : (l : Left) (o : Outcome) → o.entries ≡ [] → IsBetweenCalls l.outline o.state → CallLeaves l o l
 nothing_more l o none is =

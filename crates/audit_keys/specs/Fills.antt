@@ -45,6 +45,6 @@ pub record CpuConforms (s : CpuState) (place : ℕ) (keys : CpuKeys) : Type 0 wh
   pub key : keys.key ≡ s.key
   pub fills : AreFills s.fills keys.fills
 
--- whether a vgetrandom state takes the read at `place` as its key; the list has this for each place
+-- whether a vgetrandom state takes the read at `place` as its key; `rekeyed` lists this for each place
 abbrev pub rekeys_of : List Bool → ℕ → Bool
 rekeys_of rekeyed place = unwrap_or (slice_get rekeyed place) false

@@ -1,4 +1,5 @@
--- The keys and the rests of batches in `book_tells` are those that the book's holders have after all entries.
+-- The keys in `book_tells` are the keys that the book's holders have after all entries. The same is true of the rests
+-- of batches that have bytes and whose width fits into a byte.
 use Rattle.std.specs.Prelude.{◌≡◌, ◌<◌, ⊤, Some, All, Contains}
 use Rattle.key_names.specs.declared.names.KeyName.{KeyName}
 use Rattle.key_names.specs.declared.names.Span.{Span}

@@ -1,5 +1,5 @@
--- The entries that calls leave are those of the calls' meanings. Functions in src/state_laws.rt state `VreadLeaves` and
--- `CallsLeave`. The contract of `state_lists` in src/lists.rt states `AreStateLists`.
+-- The entries that calls leave are the entries of the calls' meanings. Functions in src/state_laws.rt state
+-- `VreadLeaves` and `CallsLeave`. The contract of `state_lists` in src/lists.rt states `AreStateLists`.
 use Rattle.std.specs.Prelude.{ℕ, ◌≡◌, List, ◌++◌, map}
 use Rattle.key_names.specs.declared.entries.VEntry.{VEntry}
 use Rattle.key_names.specs.Lanes.Book.{Lists}
@@ -13,8 +13,8 @@ use Rattle.audit_keys.specs.Outline.{IsBetweenCalls}
 use Rattle.audit_keys.specs.Left.{Left, vread_left}
 use Rattle.audit_keys.specs.Callers.{lists_left}
 
--- `new` has the entries of `old` and then those of the vread's meaning `m`, and the outline of the state after the
--- vread
+-- the entries of `new` are the entries of `old`, and then the entries of the vread's meaning `m`. The outline of `new`
+-- is the outline of the state after the vread
 pub record Leaves (m : CallMeaning) (old new : Left) : Type 0 where
   pub entries : new.entries ≡ old.entries ++ m.entries
   pub state : VgetrandomState

@@ -76,7 +76,7 @@ abbrev pub second_key : List Step → Option KeyAndRest
 second_key [] = None
 second_key (step ∷ rest) = or_key (key_read step) rest None
 
--- the key and the steps after the call, if the steps begin with a system call that reads a key
+-- if the steps begin with a system call that reads a key: this key, and the steps after the call
 abbrev pub key_in_front : List Step → Option KeyAndRest
 key_in_front (Look a ∷ Look b ∷ step ∷ rest) = or_key (key_read step) rest (second_key rest)
 key_in_front _ = None

@@ -42,14 +42,15 @@ abbrev pub takes_read : ℕ → List (Vec (Vec VEntry)) → ℕ → Bool
 takes_read cpu callers k =
     list_any (λ states. list_any (λ es. list_any (rekeys_place cpu k) es.items) states.items) callers
 
--- `kept` has the entries that `lists` has for the base and the CPUs, and `callers` those for the vgetrandom states
+-- `kept` has the entries of the base and of the CPUs in `lists`. `callers` has the entries of the vgetrandom states in
+-- `lists`
 pub record HasEntries (lists : Lists) (kept : KeptLists) (callers : List (Vec (Vec VEntry))) : Type 0 where
   pub base : base_entries kept.base.items ≡ lists.base
   pub cpus : cpu_lists kept.cpus.items ≡ lists.cpus
   pub states : caller_lists callers ≡ lists.callers
 
--- the results of entries: the keys that they make and erase, the rests of batches that they give up, and their uses;
--- also the keys and rests that are held after them
+-- the results of entries: the keys that the entries make and erase, the rests of batches that the entries give up, and
+-- the uses of keys. Also the keys and rests that are held after the entries
 pub record Tells : Type 0 where
   pub births : List Birth
   pub endings : List Ending
@@ -139,6 +140,6 @@ caller_tells lists caller = all_below (length (list_at lists.callers caller)) (s
 abbrev pub callers_tell : Lists → Tells
 callers_tell lists = all_below (length lists.callers) (caller_tells lists)
 
--- the results of a book: those of the base, of each CPU, and of each vgetrandom state of each caller
+-- the results of a book: first the results of the base, then of each CPU, then of each vgetrandom state of each caller
 abbrev pub book_tells : Lists → Tells
 book_tells lists = joined (joined (base_tells lists) (cpus_tell lists)) (callers_tell lists)

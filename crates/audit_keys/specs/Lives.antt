@@ -46,12 +46,12 @@ long_endings lane place (User n) =
     if nat_lt 32 n then ended (Lane lane place) (Some (Call lane place)) else []
 long_endings lane place (Kernel n) = []
 
--- an extraction makes the root that it gives, and the base holds this root
+-- if an entry of the base names the root `r`, the pool's entry at place `r` made this root, and the base holds it
 abbrev pub root_births : Option ℕ → List Birth
 root_births None = []
 root_births (Some r) = born (Root r) InBase (Lane PoolLane r) ∷ []
 
--- if an entry names a root or a refill, this new key replaces `key`, which was there before
+-- if an entry names a root or a refill, a new key replaces `key`, the key before the entry
 abbrev pub replaced : Origin → Option ℕ → Option KeyName → List Ending
 replaced by None key = []
 replaced by (Some n) key = ended by key
@@ -114,7 +114,7 @@ refill_births of s None = []
 refill_births of s (Some key) =
     born (Vdso of.caller of.state s.refills) (InState of) (state_origin of s.place) ∷ []
 
--- the key of a rekey is a call key, and the read of a CPU made this key
+-- a rekey gives the state a call key; the read at place `cpu_place` of CPU `cpu` made this key
 abbrev pub state_births_at : StateOf → NamedState → VEntry → List Birth
 state_births_at of s (Rekey cpu cpu_place) =
     born (Call (CpuLane cpu) cpu_place) (InState of) (Lane (CpuLane cpu) cpu_place) ∷ []

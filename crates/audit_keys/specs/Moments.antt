@@ -21,8 +21,8 @@ pub record AreBeginnings (whole part : Lists) : Type 0 where
   pub states : (caller state : ℕ) → BeginsWith (state_list whole caller state) (state_list part caller state)
   pub ends : (caller state : ℕ) → (state_after caller state (state_list part caller state)).expected ≡ anything
 
--- if the lists of `part` are beginnings of a book's lists, no byte of a key or rest that is held after these beginnings
--- was used in them
+-- if the lists of `part` are beginnings of a book's lists, no byte of a key or rest that is held at the end of `part`
+-- was used in `part`
 abbrev pub BeginningsHoldUnused : Type 0
 BeginningsHoldUnused = (whole part : Lists) → HalfFinishedBook whole → AreBeginnings whole part → HoldsUnused part
 

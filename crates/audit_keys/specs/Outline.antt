@@ -1,4 +1,4 @@
--- The outline of a vgetrandom state: the part that determines the entries of its calls.
+-- The outline of a vgetrandom state: the part of the state that determines which entries a call leaves.
 use Rattle.std.specs.Prelude.{◌≡◌, false, []}
 use Rattle.key_names.specs.Kernel.VgetrandomState.{VgetrandomState}
 use Rattle.key_names.specs.Callers.VreadSteps.{published_by}

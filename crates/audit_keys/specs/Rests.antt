@@ -1,4 +1,4 @@
--- The rest of a batch is its bytes that were not served. Here are the rests that each entry gives up.
+-- The rests of batches that each entry gives up. The rest of a batch is the bytes of the batch that were not served.
 use Rattle.std.specs.Prelude.{ℕ, ◌≡◌, true, false, Option, Some, None, List, [], ◌∷◌, nat_lt, if◌then◌else◌}
 use Rattle.std.specs.List.{flat_map, range_with_len}
 use Rattle.key_names.specs.declared.names.LaneId.TheVariants.{Cpu as CpuLane}
@@ -19,7 +19,8 @@ use Rattle.audit_keys.specs.UsedAt.{state_origin}
 use Rattle.audit_keys.specs.declared.lives.GivenUp.{GivenUp}
 use Rattle.audit_keys.specs.declared.batches.StateBatch.{StateBatch}
 
--- `s` is a vgetrandom state before the entry at `place`, and `batch` has the keys of `s` and its position in its batch
+-- `s` is a vgetrandom state before the entry at `place`. `batch` has the keys of `s`, and the position of `s` in its
+-- batch
 pub record BatchConforms (s : NamedState) (place : ℕ) (batch : StateBatch) : Type 0 where
   pub keys : StateConforms s place batch.keys
   pub pos : batch.pos ≡ s.pos

@@ -46,7 +46,8 @@ endings_of key endings = filter (λ ending. names.eq ending.key key) endings
 abbrev pub birth_of : KeyRow → Birth
 birth_of row = record { key = row.key; holder = row.holder; by = row.made }
 
--- `row` is right: its ending and its pieces are those of its key, among the pieces and the endings of all keys
+-- `row` is right: it has the ending and the pieces of its key. `pieces` and `endings` are the pieces and endings of all
+-- keys
 pub record IsRow (pieces : List KeyPiece) (endings : List Ending) (row : KeyRow) : Type 0 where
   -- the entry that ended the key, if one did
   pub ended_by : row.ended ≡ option_map (λ ending. ending.by) (slice_get (endings_of row.key endings) 0)

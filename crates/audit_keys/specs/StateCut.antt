@@ -40,6 +40,6 @@ lists_made cuts starts c [] = []
 lists_made cuts starts c (calls ∷ callers) =
     lists_left (take (calls_by (cuts c) (starts c) calls) calls) ∷ lists_made cuts starts (suc c) callers
 
--- for any cuts of the callers' lists, the kept entries are those that the first calls of each caller leave
+-- for any cuts of the callers' lists, the kept entries are the entries that the first calls of each caller leave
 abbrev pub AreCut : List (List Call) → List (Vec (Vec StateEntry)) → Type 0
 AreCut callers lists = (cuts : ℕ → Cut) → all_lists_by cuts 0 lists ≡ lists_made cuts (start_stamp callers) 0 callers

@@ -33,7 +33,7 @@ abbrev pub served_by : Origin → KeyName → ℕ → ℕ → Used
 served_by by key from len =
     record { span = record { key = key; from = from; len = len }; purpose = Served; by = by }
 
--- the uses that `used_of` gives for the key in use; a key without a name has none
+-- the uses that `used_of` gives for the key in use; there are none if this key has no name
 abbrev pub named_used : Option KeyName → (KeyName → List Used) → List Used
 named_used None used_of = []
 named_used (Some key) used_of = used_of key

@@ -1,5 +1,5 @@
--- A use that the code lists also has its entry and, if its bytes were kept, the name of the new key. Without these two,
--- the listed uses are the uses of `key_names`.
+-- A use that the code lists also has its entry. If the bytes were kept, it also has the name of the new key. Without
+-- these two, the listed uses are the uses of `key_names`.
 use Rattle.std.specs.Prelude.{ℕ, ◌≡◌, Bool, List, map}
 use Rattle.key_names.specs.declared.entries.BaseEntry.{BaseEntry}
 use Rattle.key_names.specs.declared.entries.CpuEntry.{CpuEntry}
@@ -26,7 +26,7 @@ use_seen used = record { span = used.span; purpose = purpose_of used.purpose }
 abbrev pub uses_seen : List Used → List Use
 uses_seen used = map use_seen used
 
--- for every list, the uses that the code lists are those that the definitions give
+-- for every list, the uses that the code lists are the uses that the definitions give
 pub record AreSeenAsUses : Type 0 where
   pub base : (es : List BaseEntry) →
       uses_seen (listed_from base_used_at base_step base_start es) ≡ uses_from base_uses_at base_step base_start es

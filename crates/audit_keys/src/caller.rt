@@ -124,7 +124,7 @@ impl AuditedCaller {
         self.put(left.entries(), call, end)
     }
 
-    // Adds a call that is a single event, and has this number and this end.
+    // Adds a call with this number and this end. The call is a single event.
     fn event(
         &mut self,
         alloc: Global,

@@ -6,8 +6,8 @@
 //!   (`specs/UsedAt.antt`).
 //! - [`lists::state_lists`] goes through the calls of every caller and returns the lists of the caller's sixteen
 //!   vgetrandom states. It reads no key and no byte: the steps of a `vread` and the [`outline::Outline`] of its state
-//!   decide which entries the `vread` leaves. Each entry is listed with the call that left the entry
-//!   ([`entry::CallEnd`]): the call's number, its line, and the stamp when the call was over.
+//!   decide which entries the `vread` leaves. Each entry is listed with the number of the call that left the entry, and
+//!   with this call's end ([`entry::CallEnd`]): the call's line, and the stamp when the call was over.
 //! - [`listed`] collects the lives and uses of keys. [`lives`] has the births and endings of keys, and the rests of
 //!   batches that are given up. [`held`] has the keys and the rests that are held after the last entries. [`cut`] has
 //!   the lists up to a stamp. [`rows`] makes a row for each key: the key's holder, the entries that made and erased the
@@ -38,7 +38,7 @@
 //!   entries are unspecified. [`state_laws`] states this for one `vread` and for one caller's calls.
 //! - [`line_ends::line_ends`]: each line of a caller is listed with its call and the stamp when the call was over.
 //! - [`listed::tell_book`] and [`held_book::hold_book`]: the lives, uses and held keys are listed entry by entry, each
-//!   once. By [`row_laws`] the keys and rests listed as held are exactly the live ones.
+//!   once. By [`row_laws`] the keys and rests listed as held are exactly the live keys and the live rests with bytes.
 //! - [`rows::make_rows`] makes a row for each key. [`rows::sort_rows`] sorts rows by when their keys were made.
 //!
 //! # Tested only

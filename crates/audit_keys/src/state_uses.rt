@@ -27,7 +27,7 @@ pub struct StateOf {
 #[derive(Clone, Copy)]
 pub struct StateKeys {
     pub key: Option<KeyName>,
-    /// How many refills of its batch the state had.
+    /// How many refills the state's batch had.
     pub refills: u64,
     pub batch_key: Option<KeyName>,
     /// The first block of the batch.

@@ -23,7 +23,7 @@ code_of NoRoom = 11
 abbrev pub IsScriptText : List ℕ → Type 0
 IsScriptText script = (s : Script) × IsScript s script
 
--- the texts are those of a script and of a transcript, and `Holds` is true of both
+-- `script` is the text of a script, `text` is the text of a transcript, and `Holds` is true of the two
 abbrev pub AreTexts : List ℕ → List ℕ → (Script → List (List SeenLine) → Type 0) → Type 0
 AreTexts script text Holds =
     (s : Script) × (t : List (List SeenLine)) × IsScript s script × IsTranscriptText text t × Holds s t
@@ -41,7 +41,7 @@ IsTrueOf script text IsYes Fail IsFull NoMemory = ⊤
 IsTrueOf script text IsYes Fail IsFull TooLong = IsScriptText script × (2 ^ 31 < length text)
 IsTrueOf script text IsYes Fail IsFull NoRoom = AreTexts script text IsFull
 
--- `answer`, that of the check, is true. Yes: the transcript is lawful. A clause: it is the first that fails
+-- the check's answer `answer` is true. Yes: the transcript is lawful. A clause: it is the first that fails
 abbrev pub IsChecked : List ℕ → List ℕ → TextAnswer → Type 0
 IsChecked script text answer = IsTrueOf script text IsSound FirstFails (λ s t. ⊥) answer
 
@@ -61,7 +61,7 @@ pub record IsLonger (old : List ℕ) (made : ℕ) (s : Script) (t : List (List S
   pub longer : length old < made
 
 -- the answer of the replay is true. Yes and NoRoom: the only lawful transcript with these steps is in the buffer, or is
--- too long for the buffer. A clause: it is the first that fails among those on lines, marks, forms and looks
+-- too long for the buffer. A clause: of the clauses on lines, marks, forms and looks, it is the first that fails
 abbrev pub IsRemade : List ℕ → List ℕ → List ℕ → List ℕ → ℕ → TextAnswer → Type 0
 IsRemade script text old new made answer =
     IsTrueOf script text (IsMade old new made) StepsFail (IsLonger old made) answer

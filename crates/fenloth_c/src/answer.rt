@@ -9,7 +9,7 @@ use judge_lines::clause::Clause;
 pub enum TextAnswer {
     /// The transcript is lawful, or its lines were made again.
     Yes,
-    /// The text is not that of a transcript.
+    /// The text `transcript` spells no transcript.
     NoTranscript,
     /// The clause in this answer is the first that fails.
     Fails(Clause),

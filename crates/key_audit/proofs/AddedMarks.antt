@@ -50,7 +50,7 @@ one_more cpus k old lane m low was more c = go (k == c) refl
         set_there cpus k c lane (λ e. (let t : (k == c) ≡ true = eq-eqb k c e in cc))
         ∙ sym (append-nil (list_at (moment_lists cpus) c))
 
--- if no CPU in `cpus` has moments, this stays so when a CPU `lane` without moments is added
+-- if no CPU in `cpus` has moments, none has moments after a CPU `lane` without moments is added
 no_more : (cpus : List (Vec Moment)) (lane : Vec Moment) → lane.items ≡ [] →
     ((c : ℕ) → c < length cpus → list_at (moment_lists cpus) c ≡ []) → (c : ℕ) →
     list_at (moment_lists (cpus ++ lane ∷ [])) c ≡ []

@@ -33,8 +33,8 @@ use Rattle.key_audit.specs.Kept.{KeepsBook}
 use Rattle.key_audit.proofs.CutStates.{cut_bare, cut_states, ends_bare, lines_bare}
 use Rattle.key_audit.proofs.VisitMarks.{marks_visits}
 
--- if `states` and `lines` are those of the transcript's calls, the kept book has the data of the book that the
--- transcript's steps make
+-- if `states` and `lines` are the states' entries and the lines of the transcript's calls, the kept book has the data
+-- of the book that the transcript's steps make
 pub keeps_book : (script : Script) (t : List (List SeenLine)) (basis : Basis) → BasisConforms script t basis →
     (m : MadeBook script t) (states : Vec (Vec (Vec StateEntry))) (lines : Vec (Vec LineEnd)) →
     AreStateLists (seen_calls basis.parts.calls.items) (all_lists_in states.items) →

@@ -1,5 +1,5 @@
--- If the input is a script and a transcript, an output that is right for these two is right for the input. If it is
--- not, an output that is right for the reason why is right for the input.
+-- If the input is a script and a transcript, an output that is right for these two is right for the input. If the input
+-- is not such a pair, the refusal that names the reason is right for the input.
 use Rattle.std.proofs.Common.{◌≡◌, ℕ, List, refl, sym, subst, ◌∙◌, inl, inr}
 use Rattle.std.specs.Prelude.{Option, Some, None, true, Result, Ok, Err, IfOk}
 use Rattle.std.specs.Option.{is_some}

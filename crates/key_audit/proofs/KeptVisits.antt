@@ -1,5 +1,5 @@
--- The moments that are made from a book's kept marks are those of the book's visits. The kept visits have the same
--- stamps.
+-- The moments that are made from a book's kept marks are the moments of the book's visits. The kept visits have the
+-- stamps of the book's visits.
 use Rattle.std.proofs.Common.{◌≡◌, ℕ, suc, ◌<◌, List, [], ◌∷◌, length, map, refl, sym, ap, ◌∙◌, arith}
 use Rattle.std.specs.Global.{Vec}
 use Rattle.std.proofs.lemmas.List.{length-map}

@@ -23,7 +23,8 @@ use Rattle.key_audit.specs.Moments.{MarksVisits, marks_on, moment_by, moments_on
 abbrev ConformsIn : {E : Type 0} → List (Visit E) → MarkBy → Type 0
 ConformsIn visits by = stamped visits by.mark.place ≡ Some (by.mark.stamp, by.who)
 
--- if the places of the marks `bys` count up from `i`, their moments are those of `rest`, the visits from place `i` on
+-- if the places of the marks `bys` count up from `i`, the moments of `bys` are the moments of `rest`, the visits from
+-- place `i` on
 counted : {E : Type 0} (i : ℕ) (whole rest : List (Visit E)) (bys : List MarkBy) →
     ((j : ℕ) → stamped rest j ≡ stamped whole (i + j)) → length bys ≡ length rest →
     InOrder i (map (λ by. by.mark) bys) → AllByRecursion (ConformsIn whole) bys → map moment_by bys ≡ visit_moments rest
@@ -57,7 +58,7 @@ module _ (lane : LaneId) where
       go true rest = ap (λ ms. by.mark ∷ ms) rest
       go false rest = rest
 
-  -- if `Q` holds for each mark with its own lane, it holds for each mark of `lane` with `lane`
+  -- if `Q` holds for each mark with the mark's own lane, `Q` holds with `lane` for each mark of `lane`
   all_on : (Q : LaneId → MarkBy → Type 0) (marks : List MarkBy) → AllByRecursion (λ by. Q by.mark.lane by) marks →
       AllByRecursion (λ by. Q lane by) (marks_on lane marks)
   all_on Q [] all = tt

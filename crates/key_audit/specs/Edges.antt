@@ -12,7 +12,7 @@ use Rattle.key_audit.specs.declared.edges.Edge.{Edge}
 
 -- ---- the edges of rows
 
--- if the fate of bytes of the keystream of `key` is that they became a key, the edge from `key` to that key
+-- if bytes of the keystream of `key` have the fate that they became a key: the edge from `key` to that key
 abbrev pub fate_edges : KeyName → Fate → List Edge
 fate_edges key (Became next) = record { from = key; to = next } ∷ []
 fate_edges key (Served by) = []

@@ -5,8 +5,8 @@ use Rattle.audit_keys.specs.declared.entry.CallEnd.{CallEnd}
 use Rattle.audit_keys.specs.declared.entry.StateEntry.{StateEntry}
 use Rattle.audit_keys.specs.declared.moments.Moment.{Moment}
 
--- the moment of an entry of a vgetrandom state, from the end of the call that left it: the stamp when the call was
--- over, and its line
+-- the moment of an entry of a vgetrandom state. A call left the entry: the moment is the stamp when this call was over,
+-- and the call's line
 abbrev pub end_moment : CallEnd → Moment
 end_moment end = record { stamp = end.stamp; line = record { caller = end.caller; event = end.event } }
 

@@ -18,15 +18,16 @@ use Rattle.key_audit.specs.Live.{calls_cut}
 use Rattle.key_audit.specs.Moments.{MarksVisits}
 use Rattle.key_audit.specs.declared.book.KeptBook.{KeptBook}
 
--- `kept` has the data of `book`, the book of the transcript `t`, in which the calls of `callers` have the meanings `ms`
+-- `kept` has the data of `book`, the book of the transcript `t`. The calls of `callers` have the meanings `ms` in this
+-- book
 pub record KeepsBook (kept : KeptBook) (t : List (List SeenLine)) (callers : List (List Call)) (book : Book)
     (ms : List (List CallMeaning)) : Type 0 where
   -- `lanes` has what is kept of each visit of each lane
   pub lanes : Keeps kept.lanes (lists_of book)
   -- `states` has the entries of each vgetrandom state
   pub states : all_lists_in kept.states.items ≡ book.callers
-  -- whatever `cuts` cut each caller's calls, the entries that they keep of its vgetrandom states are those that its
-  -- calls before the cut left
+  -- for any `cuts` (one cut for each caller), a caller's cut keeps the entries that the caller's calls before the cut
+  -- left for its vgetrandom states
   pub cut : (cuts : ℕ → Cut) →
       all_lists_by cuts 0 kept.states.items ≡ map state_lists (first_calls (calls_cut cuts callers) 0 ms)
   -- each entry is listed with the end of the call that left the entry

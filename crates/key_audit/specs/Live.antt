@@ -34,8 +34,8 @@ use Rattle.key_audit.specs.Texts.{holder_text, key_text, name_text, piece_text, 
 
 -- ---- a book that is cut at a moment
 
--- where the calls of caller `c` are cut: after its call number `call` if `c` is the caller `caller`, and otherwise at
--- the stamp
+-- the cut of the calls of caller `c`. It is after call number `call` if `c` is the caller `caller`, and otherwise at
+-- `stamp`
 abbrev pub cut_at : Until → ℕ → Cut
 cut_at (ToStamp stamp) c = ByStamp stamp
 cut_at (ToCall stamp caller call) c = if caller == c then ByCall call else ByStamp stamp
@@ -44,7 +44,7 @@ abbrev pub until_stamp : Until → ℕ
 until_stamp (ToStamp stamp) = stamp
 until_stamp (ToCall stamp caller call) = stamp
 
--- how many calls of caller `c` its cut keeps
+-- how many calls of caller `c` the cut `cuts c` keeps
 abbrev pub calls_cut : (ℕ → Cut) → List (List Call) → ℕ → ℕ
 calls_cut cuts callers c = calls_by (cuts c) (start_stamp callers c) (list_at callers c)
 
@@ -53,7 +53,7 @@ calls_cut cuts callers c = calls_by (cuts c) (start_stamp callers c) (list_at ca
 abbrev pub lists_until : Until → List (List Call) → Book → List (List CallMeaning) → Lists
 lists_until until callers book ms = lists_of (book_at (until_stamp until) (calls_cut (cut_at until) callers) book ms)
 
--- the lists of the book cut at `stamp`: of each caller, the calls that were over by `stamp` are kept
+-- the lists of the book cut at `stamp`. A caller's call is kept if it was over by `stamp`
 abbrev pub lists_at_stamp : ℕ → List (List Call) → Book → List (List CallMeaning) → Lists
 lists_at_stamp stamp callers book ms = lists_until (ToStamp stamp) callers book ms
 
@@ -70,7 +70,7 @@ live_keys lists =
     ++ listed_below (length lists.callers) (λ caller. listed_below (length (list_at lists.callers caller))
     (λ state. held_key (State (record { caller = caller; state = state })) (live_key lists (state_key caller state))))
 
--- the unserved rests in memory that have bytes: those of each CPU's batch for each width, and of each vgetrandom
+-- the unserved rests in memory that have bytes: the rests of each CPU's batch for each width, and of each vgetrandom
 -- state's batch
 abbrev pub live_rests : Lists → List HeldRest
 live_rests lists =
@@ -98,7 +98,7 @@ kept_line word moments row =
     word ++ key_text moments row
     ++ flat_map (piece_text moments) (filter (λ piece. became_key piece.fate) row.pieces.items) ++ 10 ∷ []
 
--- the output line of a held key, from its row, if it has one
+-- the output line of a held key, made from the key's row; empty if the key has no row
 abbrev pub held_line : Moments → Option KeyRow → List ℕ
 held_line moments None = []
 held_line moments (Some row) = kept_line (codes "held ") moments row

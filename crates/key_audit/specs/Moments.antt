@@ -41,7 +41,7 @@ pub record AreMoments (callers : List (List Call)) (book : Book) (ms : List (Lis
 abbrev pub moment_by : MarkBy → Moment
 moment_by by = record { stamp = by.mark.stamp; line = record { caller = by.who.caller; event = by.who.event } }
 
--- those of `marks` that are in `lane`, in the same order
+-- the marks among `marks` that are in `lane`, in the same order
 abbrev pub marks_on : LaneId → List MarkBy → List MarkBy
 marks_on lane marks = filter (λ by. is_same_lane by.mark.lane lane) marks
 
@@ -55,7 +55,7 @@ pub record HasMarks (many : ℕ) (marks : List MarkBy) (moments : Moments) : Typ
   pub count : length moments.cpus.items ≡ many
   pub cpus : (c : ℕ) → c < many → list_at (moment_lists moments.cpus.items) c ≡ moments_on (CpuLane c) marks
 
--- `new` has one moment more than `old`: the moment of the mark `by`, as the last of the mark's lane
+-- `new` has the moments of `old` and one more: the moment of the mark `by`, at the end of its lane's moments
 pub record AddsMark (old : Moments) (by : MarkBy) (new : Moments) : Type 0 where
   pub pool : new.pool.items ≡ old.pool.items ++ moments_on PoolLane (by ∷ [])
   pub base : new.base.items ≡ old.base.items ++ moments_on BaseLane (by ∷ [])

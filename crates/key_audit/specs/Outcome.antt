@@ -1,4 +1,5 @@
--- What the program leaves for an input, by its exit status. The input should be a script and then a transcript.
+-- What the program leaves for an input, for each exit status of the program. The input should be a script and then a
+-- transcript.
 use Rattle.std.specs.Prelude.{ℕ, ◌≡◌, ◌⊎◌, true, false, Some, List, ◌++◌, Option, map, All, IsPermutation}
 use Rattle.std.specs.List.{flat_map}
 use Rattle.key_names.specs.Lanes.Book.{Book, Lists, lists_of}

@@ -1,4 +1,4 @@
--- The keys and bytes that can be computed from the keys, and the unserved rests of batches, in memory: keys that are
+-- The keys and bytes that can be computed from what is in memory (keys, and unserved rests of batches): keys that are
 -- made later, and bytes of later lines.
 use Rattle.std.specs.Prelude.{ℕ, Bool, false, not, ◌&&◌, ◌||◌, ◌↔◌, ◌≡◌, Option, Some, None, List, [], ◌∷◌, ◌++◌, codes}
 use Rattle.std.specs.Prelude.{filter, nat_le, nat_lt, ◌-◌, if◌then◌else◌, Contains, IsTrue, IsPermutation, IsSortedByKey}
@@ -30,7 +30,7 @@ has_piece rest piece = names.eq rest.span.key piece.span.key
 abbrev pub is_in_rest : List HeldRest → KeyPiece → Bool
 is_in_rest rests piece = list_any (λ rest. has_piece rest piece) rests
 
--- the key that the bytes of `piece` became, if they became one and if the first of them is in one of `rests`
+-- if the bytes of `piece` became a key, and the first of these bytes is in one of `rests`: this key
 abbrev pub rest_key : List HeldRest → KeyPiece → Fate → List KeyName
 rest_key rests piece (Became key) = if is_in_rest rests piece then key ∷ [] else []
 rest_key rests piece (Served by) = []
@@ -57,7 +57,8 @@ copied_at moments piece (Became key) = []
 copied_at moments piece (GivenUp by) = []
 copied_at moments piece Held = []
 
--- the bytes of `piece`, if they were served, and if their key can be computed or a held rest has the first of them
+-- the bytes of `piece`, if they were served, and if either their key can be computed or their first byte is in one of
+-- `rests`
 abbrev pub copied_piece : Moments → Bool → List HeldRest → KeyPiece → List Copied
 copied_piece moments is_known rests piece =
     if is_known || is_in_rest rests piece then copied_at moments piece piece.fate else []
@@ -88,7 +89,7 @@ is_line (Some last) line = same_lines.eq last line
 abbrev pub line_begin : Option LineOf → LineOf → List ℕ
 line_begin last line = if is_line last line then [] else line_end last ++ codes "line " ++ line_text line
 
--- the text of the served bytes, if the bytes before them are of the line `last`
+-- the text of served bytes; `last` is the line of the bytes before them, if there are any
 abbrev pub lines_after : Option LineOf → List Copied → List ℕ
 lines_after last [] = line_end last
 lines_after last (one ∷ more) =

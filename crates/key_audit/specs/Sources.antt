@@ -26,7 +26,7 @@ use Rattle.key_audit.specs.Texts.{entry_text, moment_at, name_text, rows_text}
 
 -- ---- the keys that a line's bytes come from
 
--- whether bytes with this fate were served, and served for `line`
+-- whether bytes with this fate were served for `line`
 abbrev pub is_served_for : Moments → LineOf → Fate → Bool
 is_served_for moments line (Served by) = same_lines.eq (moment_at moments by).line line
 is_served_for moments line (Became key) = false
@@ -36,7 +36,7 @@ is_served_for moments line Held = false
 abbrev pub serves : Moments → LineOf → KeyRow → Bool
 serves moments line row = list_any (λ piece. is_served_for moments line piece.fate) row.pieces.items
 
--- the keys of the rows with bytes that were served for `line`
+-- for each row that has bytes served for `line`, the row's key
 abbrev pub serving : Moments → LineOf → List KeyRow → List KeyName
 serving moments line rows = map (λ row. row.key) (filter (serves moments line) rows)
 
@@ -86,8 +86,8 @@ root_text moments place =
 abbrev pub counts_text : ℕ → ℕ → List ℕ
 counts_text samples bits = codes " samples " ++ decimal samples ++ codes " bits " ++ decimal bits ++ 10 ∷ []
 
--- the output line of the extraction of a root, with the counts of samples and bits before it; empty for a key of
--- another kind
+-- the output line of the extraction that made a root, with the counts of samples and bits before the extraction; empty
+-- for a key of another kind
 abbrev pub extraction_text : Moments → (ℕ → ℕ) → (ℕ → ℕ) → KeyName → List ℕ
 extraction_text moments samples bits (Root place) =
     root_text moments place ++ counts_text (samples place) (bits place)
@@ -98,8 +98,8 @@ extraction_text moments samples bits (Vdso caller state n) = []
 
 -- ---- the output of `line C.E`
 
--- the output has the rows of the keys that a line's bytes come from, the key made last first. Then it has the
--- extraction of each root among these keys
+-- the output has the rows of the keys that a line's bytes come from, from the key made last to the key made first. Then
+-- it has the extraction of each root among these keys
 pub record TellsSources (moments : Moments) (rows : List KeyRow) (line : LineOf) (samples bits : ℕ → ℕ)
     (output : List ℕ) : Type 0 where
   -- `is_source` is whether bytes of a key's keystream were served for the line, or became a key that is itself a source

@@ -25,7 +25,7 @@ use Rattle.audit_keys.specs.MadeOrder.{moment_at as moment_listed}
 abbrev pub no_moment : Moment
 no_moment = record { stamp = 0; line = record { caller = 0; event = 0 } }
 
--- the moment of the entry `at`, or moment 0 of line 0.0 if `moments` has none for it
+-- the moment of the entry `at`, or the stamp 0 and the line 0.0 if `moments` has no moment for it
 abbrev pub moment_at : Moments → Origin → Moment
 moment_at moments at = unwrap_or (moment_listed moments at) no_moment
 

@@ -18,8 +18,8 @@ use tool_ends::short_lines::no_line;
 use tool_ends::{Status, end_output, put_answer, put_line, put_refusal};
 use transcript_text::Transcript;
 
-// Writes the answer to `ask` about the transcript `t`. It takes what it needs from `t`, frees `t`, and then makes the
-// answer.
+// Writes the answer to `ask` about the transcript `t`. The function takes what the answer needs from `t`, frees `t`,
+// and then makes the answer.
 fn tell<K: Sink>(alloc: Global, ask: Ask, script: &Script, t: Transcript, sink: &mut K) -> Status
     ensures ends { WritesEnds (ListedOf ask script.now t) result (K.held sink.old) (K.held sink.new) }
     ensures counted { CountsWriteFault result (K.faults sink.old) (K.faults sink.new) }

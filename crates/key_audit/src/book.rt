@@ -22,7 +22,7 @@ use transcript_text::Transcript;
 /// What is kept of a transcript's book (the lists of its lanes and of its vgetrandom states).
 #[derive(Drop)]
 pub struct KeptBook {
-    /// The visits of each lane, each with what is kept of it.
+    /// What is kept of each visit of each lane.
     pub lanes: Lists,
     /// For each caller and each of its sixteen vgetrandom states, the state's entries. Each entry has the call that
     /// left it.
@@ -33,7 +33,7 @@ pub struct KeptBook {
     pub marks: Vec<MarkOf>,
 }
 
-/// The kept book of a lawful transcript, or the clause that an unlawful one fails.
+/// The kept book of a lawful transcript, or the first clause that an unlawful transcript fails.
 #[derive(Drop)]
 pub enum AuditedBook {
     Lawful(KeptBook),

@@ -242,8 +242,8 @@ fn origin_text(
     Ok(text.bytes)
 }
 
-/// The rows of all keys that the bytes of `line` come from, the row of the key made last first. Then the extraction of
-/// each root among these keys.
+/// The rows of all keys that the bytes of `line` come from, from the key made last to the key made first. Then the
+/// extraction of each root among these keys.
 ///
 /// # Errors
 ///

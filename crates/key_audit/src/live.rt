@@ -1,5 +1,5 @@
 //! The commands `live T` and `live C.E`: the keys, and the unserved rests of batches, that are in memory after a stamp
-//! or after a line. The keys and bytes that can be computed from them follow.
+//! or after a line. Then the keys and bytes that can be computed from what is in memory.
 ghost use Rattle.std.specs.Prelude.{◌≡◌, IfOk, List, Some};
 ghost use Rattle.key_names.specs.Lanes.Book.{Book};
 ghost use Rattle.key_names.specs.Callers.Calls.{Call};
@@ -23,8 +23,8 @@ use crate::until::Until;
 use audit_keys::moments::LineOf;
 use std::alloc::{AllocError, Global};
 
-/// The output lines of the keys, and of the unserved rests of batches, that are in memory at the moment `until`. The
-/// lines of the keys and bytes that can be computed from them follow.
+/// The output lines of the keys, and of the unserved rests of batches, that are in memory at the moment `until`. Then
+/// the lines of the keys and bytes that can be computed from what is in memory.
 ///
 /// # Errors
 ///

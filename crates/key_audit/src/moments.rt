@@ -25,7 +25,8 @@ fn moment_by(of: &MarkOf) -> Moment
     }
 }
 
-// Appends `moment`, that of a visit, to the moments of CPU number `cpu`. Appends nothing if the book lacks this CPU.
+// Appends `moment`, the moment of a visit, to the moments of CPU number `cpu`. Appends nothing if the book lacks this
+// CPU.
 fn push_cpu(cpus: &mut Vec<Vec<Moment>>, cpu: usize, moment: Moment) -> Result<(), AllocError>
     ensures count { length cpus.new.items ≡ length cpus.old.items }
     ensures each { (c : ℕ) → c < length cpus.old.items → OnOk result (list_at (moment_lists cpus.new.items) c

@@ -1,4 +1,4 @@
-//! The keys and bytes that can be computed from the keys, and the unserved rests of batches, in memory: keys that are
+//! The keys and bytes that can be computed from what is in memory (keys, and unserved rests of batches): keys that are
 //! made later, and bytes of later lines.
 ghost use Rattle.std.specs.Prelude.{◌≡◌, ◌++◌, IfOk, OnOk, IsPermutation, IsSortedByKey, map};
 ghost use Rattle.std.specs.BTreeSet.{contains};
@@ -75,8 +75,8 @@ fn with_rest_keys(
     Ok(all)
 }
 
-// Adds the bytes of a piece to `all`, if they were served, and can be computed from a known key or are in one of the
-// rests.
+// If the bytes of a piece were served, and their key is known or their first byte is in one of the rests, adds them to
+// `all`.
 fn push_piece(
     all: &mut Vec<Copied>,
     moments: &Moments,

@@ -33,7 +33,7 @@ impl<'a> RowIndex<'a> {
         Ok(RowIndex { rows, by_name })
     }
 
-    /// The number of the row of `key`, or `None` if no row is this key's.
+    /// The number of the row of `key`, or `None` if `key` has no row.
     pub(crate) fn find(&self, key: KeyName) -> Option<usize>
         ensures found { IfSome result (λ n. name_at self.now.rows.now n ≡ Some key) }
         ensures none { result ≡ None → (n : ℕ) → name_at self.now.rows.now n ≢ Some key }

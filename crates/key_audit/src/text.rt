@@ -11,7 +11,7 @@ use itoa::Buffer;
 use key_names::{KeyName, LaneId, Span};
 use std::alloc::{AllocError, Global};
 
-/// The moment that is printed for an entry without a moment.
+/// The moment that is printed for an entry for which no moment is listed.
 const NO_MOMENT: Moment = Moment {
     stamp: 0,
     line: LineOf {

@@ -8,7 +8,8 @@ use Rattle.audit_keys.specs.declared.rows.KeyRow.{KeyRow}
 use Rattle.audit_keys.specs.Rows.{pieces_of, endings_of, all_pieces, IsRow}
 use Rattle.audit_keys.proofs.rows.make_rows.Goals as goal
 
--- if pieces and endings are reordered, but those of each key keep their order, a right row (`IsRow`) stays right
+-- if pieces and endings are reordered, but the pieces and endings of each key keep their order, a right row (`IsRow`)
+-- stays right
 row_moves : (pieces pieces' : List KeyPiece) (endings endings' : List Ending) →
     ((key : KeyName) → pieces_of key pieces' ≡ pieces_of key pieces) →
     ((key : KeyName) → endings_of key endings' ≡ endings_of key endings) →

@@ -9,7 +9,8 @@ use Rattle.audit_keys.specs.StateCut.{all_lists_by, lists_by}
 use Rattle.key_audit.specs.Live.{cut_at}
 use Rattle.key_audit.proofs.entries.entries_until.Goals as goal
 
--- the entries kept of all callers are those kept of caller `c`, and then those kept of the callers after it
+-- the kept entries of all callers from number `c` on are the kept entries of caller `c`, and then those of the callers
+-- after `c`
 one_caller : (cuts : ℕ → Cut) (c : ℕ) (lists : Vec (Vec StateEntry)) (callers : List (Vec (Vec StateEntry)))
     (entries : List (List VEntry)) → entries ≡ lists_by (cuts c) lists.items →
     all_lists_by cuts c (lists ∷ callers) ≡ (entries ∷ []) ++ all_lists_by cuts (c + 1) callers
