@@ -38,7 +38,8 @@
 //!   entries are unspecified. [`state_laws`] states this for one `vread` and for one caller's calls.
 //! - [`line_ends::line_ends`]: each line of a caller is listed with its call and the stamp when the call was over.
 //! - [`listed::tell_book`] and [`held_book::hold_book`]: the lives, uses and held keys are listed entry by entry, each
-//!   once. By [`row_laws`] the keys and rests listed as held are exactly the live keys and the live rests with bytes.
+//!   once. By [`row_laws`] the keys and rests listed as held are exactly the live keys and the live rests with bytes. A
+//!   CPU's batch must be of a width below 256 bytes; every width in use is.
 //! - [`rows::make_rows`] makes a row for each key. [`rows::sort_rows`] sorts rows by when their keys were made.
 //!
 //! # Tested only

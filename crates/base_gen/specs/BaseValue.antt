@@ -21,7 +21,7 @@ pub record BaseValue : Type 0 where
   pub generation : ℕ
   -- the moment at which the reseed timer is due, in milliseconds
   pub timer : Option ℕ
-  -- whether the system is young: no reseed at 120 seconds of uptime or later has computed an interval
+  -- whether the system is young: each reseed so far was at an uptime below 120 seconds
   pub early_boot : Bool
   -- the number of running callers
   pub running : ℕ

@@ -3,9 +3,9 @@
 //! program's test gives it the file `stdin`, and compares the output with the file `stdout`. Both files have published
 //! vectors and vectors of other implementations (`tools/vectors.py`).
 //!
-//! Each line of standard input is a row: a word and its fields, with one space between. The answer is a line. Bytes are
-//! hexadecimal, and `-` means no bytes, no threshold or no dump. Moments are milliseconds, below 2^40. A line that is
-//! no row ends the program with an error.
+//! Each line of standard input is a row: a word and its fields, with white space between. The answer is a line. Bytes
+//! are hexadecimal, and `-` means no bytes, no threshold or no dump. Moments are milliseconds, below 2^40. A line that
+//! is no row ends the program with an error.
 //!
 //! - `hash KEY TEXT SIZE`: the BLAKE2s-256 hash of the text under the key. The text is hashed in pieces of SIZE bytes,
 //!   or at once if SIZE is 0.
