@@ -52,7 +52,8 @@ function listen() {
 }
 
 function begin() {
-  $("example").append(...data.examples.map((example, at) => make("option", { value: at }, example.title)));
+  $("example").append(...data.examples.map((example, at) => make("option", { value: at }, example.title)),
+    make("option", { value: "", hidden: true }, "The guided tour's script"));
   say("sources", `Version ${data.version}. `, Object.entries(data.modules).map(([name, it]) =>
     [`${name}: ${it.bytes.toLocaleString("en")} bytes of WebAssembly, of sources `, code(it.sources.slice(0, 16)), ". "]));
   if (typeof WebAssembly !== "object" || typeof DecompressionStream !== "function") {

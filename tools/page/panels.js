@@ -20,13 +20,13 @@ function hexOf(model, line) {
 
 function lineRow(model, line, at, reached) {
   const isNow = line.first <= at && at <= line.last, isLater = !line.first || line.first > at;
-  const reach = line.parts.length ? reachTag(line, reached, at) : null;
+  const reach = line.parts.length && at > 0 ? reachTag(line, reached) : null;
   return make("div", { class: `line${isNow ? " now" : ""}${isLater ? " later" : ""}`, "data-line": line.id, "aria-current": isNow ? "step" : null },
     make("button", { class: "line-id mono", title: "go to this line" }, line.id), " ", bold(line.word), ` ${line.answer} `,
     make("span", { class: "soft" }, line.stepsText), " ", hexOf(model, line), reach ? [" ", reach] : null);
 }
 
-function reachTag(line, reached, at) {
+function reachTag(line, reached) {
   if (!reached) return null;
   const bytes = (reached[line.id] || []).reduce((sum, piece) => sum + piece.length, 0);
   if (!bytes) return tag("safe", "out of reach");
@@ -63,7 +63,7 @@ function reachPanel(model, memory, at) {
   return [
     make("p", {}, tag("leak", "in reach"), names.length ? ` ${list}, whose bytes come from this memory.` : " No answer of this run."),
     make("p", {}, tag("safe", "out of reach"), ` ${plural(past, "earlier answer")}`,
-      later ? `, and ${plural(later, "later one")}, whose keys come from elsewhere` : "", "."),
+      later ? ` and ${plural(later, "later one")}: their keys do not follow from this memory` : "", "."),
     make("p", { class: "quiet" }, "Proved: no byte of a key in this memory was used before. It is believed of ChaCha20 that nobody computes a key from its own stream. The pool's own memory is not counted: a thief that has it too can follow a reseed that mixes in nothing new."),
   ];
 }

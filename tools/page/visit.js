@@ -1,5 +1,5 @@
 "use strict";
-// The guided first visit: seven steps of one run, from an empty pool to a stolen memory image. Its names and bytes are
+// The guided tour: seven steps of one run, from an empty pool to a stolen memory image. Its names and bytes are
 // those of the run that the page has just made.
 
 const VISIT = ["rngscript 1", "cpus 1", "caller 0", "read 16 1", `add ${Array.from({ length: 32 }, (_, at) =>
@@ -12,7 +12,7 @@ const STEPS = [
       "It has gathered none so far. A program that asks for 16 bytes, and does not want to wait, gets the error EAGAIN."],
     picture: "The input pool is empty. There is no base key, and CPU 0 has no key. The program gets EAGAIN." },
   { at: 2, title: "Samples go in",
-    says: ["The script, in box 1 below, adds 32 bytes, and says that an attacker would have to guess 256 bits of them. They are hashed into the pool, whose state depends on all of them from now on.",
+    says: ["The script, in box 1 below, adds 32 bytes and credits 256 bits for them: an attacker is taken to know nothing about them. The bytes are hashed into the pool, so from now on the pool's state depends on all of them.",
       "At 256 bits the kernel calls the generator ready. Here you can read the 32 bytes in the script, so on this page nothing is secret."],
     picture: "Samples of 32 bytes go into the input pool, which has 256 bits and is ready." },
   { at: 4, title: "A root key comes out",
@@ -20,8 +20,8 @@ const STEPS = [
       "Nobody knows how to compute the hashed bytes from a hash. So {Root(1)} does not give the pool away."],
     picture: "The pool gives Root(1) to the base key." },
   { at: 5, title: "The base key makes a key for the CPU, and erases itself",
-    says: ["A key has 32 bytes. The cipher ChaCha20 makes a stream of bytes from it, as long as one likes. The first 32 bytes of the stream of {Root(1)} overwrite {Root(1)} itself: they are the new base key, {Base(1)}. The next 32 bytes go to CPU 0 as its key, {Call(Base,1)}.",
-      "So {Root(1)} is nowhere in memory any more."],
+    says: ["A key has 32 bytes. The cipher ChaCha20 makes a long stream of bytes from it. The first 32 bytes of the stream of {Root(1)} overwrite {Root(1)} itself: they are the new base key, {Base(1)}. The next 32 bytes go to CPU 0 as its key, {Call(Base,1)}.",
+      "So {Root(1)} is nowhere in memory any more. Each CPU has a key of its own, so that CPUs need not wait for one another."],
     picture: "Bytes 0 to 32 of Root(1)'s stream replace it as Base(1), and bytes 32 to 64 go to CPU 0. Root(1) is erased." },
   { at: 6, title: "The first answer",
     says: ["A program asks for 16 bytes. The CPU's key is used as the base key was: bytes 0 to 32 of its stream overwrite it, and are the new key {Cpu(0,0)}. Bytes 32 to 48 are the answer, which is line 0.2 of the transcript.",
@@ -32,9 +32,9 @@ const STEPS = [
       "This goes forwards only. From a key anybody can make its stream, and so the next key, and the one after that. The key before does not come out: that would be ChaCha20 backwards, and nobody knows how to do that."],
     picture: "Cpu(0,0) is replaced by Cpu(0,1), and a second answer goes to the program. Three keys are erased by now." },
   { at: 7, title: "The memory is stolen",
-    says: ["Now a thief copies the memory of the base and of the CPU. The copy has {Base(1)} and {Cpu(0,1)}, and no byte of their streams has been used. Both answers so far came from keys that are gone: they are out of reach.",
-      "The next answer, line 0.4, is in reach, since {Cpu(0,1)} will make it. In line 0.5 the kernel reseeds: the keys come from the pool again, whose memory is not in this copy. So line 0.6 is out of reach."],
-    sum: "The answers so far came from keys that no longer exist, and the keys in memory have handed out nothing yet. The second half is proved of every run, at every stamp. (Stamps number the visits in their order.)",
+    says: ["Now a thief copies the memory of the base key and of the CPU. The copy has {Base(1)} and {Cpu(0,1)}, and no byte of their streams has been used. Both answers so far came from keys that are gone: they are out of reach.",
+      "The next answer, line 0.4, is in reach, since {Cpu(0,1)} will make it. In line 0.5 the kernel reseeds: the keys come from the pool again, whose memory is not in this copy. So line 0.6 is out of reach. A thief who also had the pool's memory could compute it."],
+    sum: "The answers so far came from keys that no longer exist, and the keys in memory have handed out nothing yet. For every run, at every stamp, it is proved that no byte of a key in memory was used before. (A stamp gives a visit's place in time.)",
     picture: "The thief has Base(1) and Cpu(0,1). Lines 0.2 and 0.3 are out of reach, line 0.4 is in reach, and line 0.6 is out of reach." },
 ];
 
@@ -54,7 +54,7 @@ function sceneText(x, y, text, kind, anchor) {
 }
 
 function poolScene([x, top], number) {
-  const isFull = number > 0, width = 128, height = 92, level = 62;
+  const isFull = number > 0, width = 128, height = 92, level = 90;
   return [
     sceneText(x + width / 2, top - 14, "input pool", "head"),
     shape("rect", { x, y: top, width, height, rx: 10, class: "pool" }),
@@ -82,23 +82,25 @@ function keyScene(model, lane, at, [x, top], title) {
 
 // An arrow from the right of one part to the left of the next, or down if that one is in the next row.
 function arrowScene([x, y], [toX, toY], label) {
-  const isDown = toY > y + 100, d = isDown ? `M${x - 150} ${y + 30} C${x - 170} ${y + 100} ${toX + 100} ${toY - 120} ${toX + 100} ${toY - 36}` : `M${x} ${y} H${toX - 4}`;
+  const isDown = toY > y + 100, middle = (x + toX) / 2;
+  const d = isDown ? `M${x - 150} ${y + 14} C${x - 170} ${y + 70} ${toX + 100} ${toY - 120} ${toX + 100} ${toY - 36}` :
+    `M${x} ${y} C${middle} ${y} ${middle} ${toY} ${toX - 4} ${toY}`;
   return [shape("path", { d, class: "arrow", "marker-end": "url(#tip)" }),
-    isDown ? sceneText(x - 160, y + 110, label, "small", "start") : sceneText((x + toX) / 2, y - 7, label, "small")];
+    isDown ? sceneText(x - 150, y + 58, label, "small", "start") : sceneText(middle, Math.min(y, toY) - 7, label, "small")];
 }
 
-// An arrow of a key that replaces itself.
-function loopScene([x, top]) {
-  return [shape("path", { d: `M${x + 150} ${top} C${x + 150} ${top - 56} ${x + 18} ${top - 56} ${x + 18} ${top - 3}`, class: "arrow loop", "marker-end": "url(#tip)" }),
-    sceneText(x + 84, top - 48, "bytes 0 to 32", "small")];
+// The arrows from the key that was just erased: up to the key that replaced it, and to the part that got its next bytes.
+function erasedScene([x, top], to, label) {
+  return [shape("path", { d: `M${x + 30} ${top + 61} V${top + 48}`, class: "arrow", "marker-end": "url(#tip)" }),
+    sceneText(x + 38, top + 57, "bytes 0 to 32", "small", "start"), arrowScene([x + BOX - 8, top + 74], to, label)];
 }
 
 function arrowsScene(number, { pool, base, cpu, out }) {
-  const rightOf = ([x, top], width, down) => [x + width + 2, top + down];
-  if (number === 2) return arrowScene(rightOf(pool, 128, 22), base, "a hash");
-  if (number === 3) return [arrowScene(rightOf(base, BOX, 22), cpu, "32 to 64"), loopScene(base)];
-  if (number === 4) return [arrowScene(rightOf(cpu, BOX, 17), out, "32 to 48"), loopScene(cpu)];
-  if (number === 5) return [arrowScene(rightOf(cpu, BOX, 57), out, "32 to 48"), loopScene(cpu)];
+  const at = ([x, top], down) => [x, top + down];
+  if (number === 2) return arrowScene([pool[0] + 130, pool[1] + 22], at(base, 22), "a hash");
+  if (number === 3) return erasedScene(base, at(cpu, 22), "32 to 64");
+  if (number === 4) return erasedScene(cpu, at(out, 17), "32 to 48");
+  if (number === 5) return erasedScene(cpu, at(out, 57), "32 to 48");
   return null;
 }
 
@@ -138,10 +140,10 @@ function visitPanel(model, number, memory, go, close) {
     make("div", { class: "bar" }, button("◀ back", number - 1),
       isLast ? make("button", { class: "main", onclick: close }, "Now step through it yourself") : button("next ▶", number + 1, "main"),
       make("h2", { id: "visit-title", tabindex: -1 }, `Step ${number + 1} of ${STEPS.length}: ${step.title}`),
-      make("button", { onclick: close, class: "close" }, "Close the visit")),
+      make("button", { onclick: close, class: "close" }, "Close the tour")),
     scene(model, number, memory),
     make("div", { class: "words", "aria-live": "polite" }, step.says.map(text => make("p", {}, stepWords(model, text))),
-      step.sum ? make("p", { class: "sum" }, bold("In one sentence: "), step.sum) : null,
+      step.sum ? make("p", { class: "sum" }, bold("In short: "), step.sum) : null,
       make("p", { class: "quiet" }, isLast ? "Change the script, and see which keys the thief gets then." : "The picture below shows the same moment in full.")),
   ];
 }
